@@ -1,0 +1,4 @@
+pub mod Sums
+pub mod Matrix
+pub mod Sets
+pub mod Verdicts
