@@ -79,3 +79,7 @@ nothing a b = 0
 
 abbrev pub plus : Matrix → Matrix → Matrix
 plus p q a b = p a b + q a b
+
+-- q is p with v at (i, j)
+abbrev pub Wrote : Matrix → Matrix → ℕ → ℕ → ℕ → Type 0
+Wrote p q i j v = (q i j ≡ v) × ((x y : ℕ) → (x ≡ i → y ≡ j → ⊥) → q x y ≡ p x y)
