@@ -1,9 +1,8 @@
 -- What a mode and a schedule grant on a line. Assumes nothing.
 use mathlib.Core.Path.{_≡_, refl, sym, ap, _∙_}
-use mathlib.Core.Bool.{Bool, true, false, cond}
-use mathlib.Core.Logic.{_⊎_, inl, inr}
+use mathlib.Core.Logic.{inl, inr}
 use mathlib.Core.List.{List, [], _∷_}
-use Prim.Native.Nat.{ℕ, zero, suc, _+_, _≤_, _<_}
+use Prim.Native.Nat.{ℕ, zero, suc, _≤_, _<_}
 use native.Mathlib.Omega.{arith}
 use lib.Dec.{eqb}
 use Rattle.std.specs.declared.option.Option.{Option}
@@ -12,12 +11,12 @@ use Rattle.std.proofs.shelf.Tests.{cases-eq, cases-lt, eq-eqb, ne-eqb, cond-tru
 use Rattle.lines.specs.declared.Line.{Line}
 use Rattle.lines.specs.declared.Line.the-variants.{Up, Down}
 use Rattle.lines.specs.Sums.{sum-below}
-use Rattle.lines.specs.Matrix.{Matrix, load, Inside, busiest}
+use Rattle.lines.specs.Matrix.{load}
 use Rattle.lines.proofs.Sums.{sum-zeros}
 use Rattle.lines.proofs.Loads.{load-same, load-add, load-none, busiest-bound}
 use Rattle.schedule.specs.declared.Join.{Join}
 use Rattle.schedule.specs.declared.Mode.{Mode}
-use Rattle.schedule.specs.Modes.{grant-of, units-to, granted, Sound, AllSound, span, grants, Serves}
+use Rattle.schedule.specs.Modes.{grant-of, units-to, granted, Sound, AllSound, span, grants}
 use Rattle.schedule.specs.Bounds.{No-shorter}
 
 -- units at a crosspoint come of a grant there

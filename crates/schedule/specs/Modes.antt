@@ -3,8 +3,8 @@ use mathlib.Core.Path.{_≡_}
 use mathlib.Core.Bool.{cond}
 use mathlib.Core.List.{List, [], _∷_}
 use Prim.Native.Nat.{ℕ, _+_, _≤_, _<_}
-use lib.Dec.{eqb}
-use lib.ListN.{length, getD}
+use lib.Dec.{eqb, ltb}
+use lib.ListN.{getD}
 use Rattle.std.specs.declared.option.Option.{Option}
 use Rattle.std.specs.declared.option.Option.the-variants.{Some, None}
 use Rattle.lines.specs.Matrix.{Matrix}
@@ -46,6 +46,10 @@ AllSound n (m ∷ ms) = Sound n m × AllSound n ms
 abbrev pub span : List Mode → ℕ
 span [] = 0
 span (m ∷ ms) = m .dwell + span ms
+
+-- a number, where it has at most 32 bits
+abbrev pub in-32-bits : ℕ → Option ℕ
+in-32-bits x = cond (ltb x 4294967296) (Some x) None
 
 -- the units that a schedule grants at each crosspoint
 abbrev pub grants : List Mode → Matrix

@@ -15,11 +15,11 @@ pub record Tuple : Type 0 where
   pub start : ℕ
   pub finish : ℕ
 
--- for each machine its tuples
+-- for each machine the sequence of its tuples
 abbrev pub Shop : Type 0
 Shop = ℕ → List Tuple
 
--- tuples in the order of time, between two times: no two of them overlap
+-- tuples in the order of time, between two times: each is over when the next starts. Neighbours may be of one job, so that a stretch of work may be told in pieces
 abbrev pub InTurn : ℕ → List Tuple → ℕ → Type 0
 InTurn from [] to = from ≤ to
 InTurn from (x ∷ xs) to = (from ≤ x .start) × (x .start < x .finish) × InTurn (x .finish) xs to
