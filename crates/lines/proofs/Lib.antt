@@ -1,2 +1,4 @@
 pub mod Sums
 pub mod Loads
+pub mod Counts
+pub mod Bits
