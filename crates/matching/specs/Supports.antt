@@ -30,3 +30,14 @@ pub record Witness (n : ℕ) (s : Support) (set : ℕ → Bool) : Type 0 where
   pub lines : (i : ℕ) → n ≤ i → set i ≡ false
   pub some : 0 < count-below n set
   pub few : count-below n (reached n s set) < count-below n set
+
+abbrev pub Matchable : ℕ → Support → Type 0
+Matchable n s = (mate : ℕ → ℕ) × Matching n s mate
+
+abbrev pub Blocked : ℕ → Support → Type 0
+Blocked n s = (set : ℕ → Bool) × Witness n s set
+
+-- exactly one of the two exists, and b tells whether it is a matching
+pub record Settled (n : ℕ) (s : Support) (b : Bool) : Type 0 where
+  pub matchable : b ≡ true → Matchable n s × (Blocked n s → ⊥)
+  pub blocked : b ≡ false → Blocked n s × (Matchable n s → ⊥)
