@@ -2,11 +2,12 @@
 ghost use mathlib.Core.Path.{_≡_};
 ghost use Rattle.lines.specs.Verdicts.{answered, or-same};
 ghost use Rattle.switch.specs.Meaning.{Meaning, Sound};
-ghost use Rattle.switch.specs.Calls.{open-decline, opens, grant-decline, grants, mode-decline, voids, RunTo, carried-answer, dwell-answer, granted-answer, last-answer};
+ghost use Rattle.switch.specs.Calls.{number, place, open-decline, opens, grant-decline, grants, mode-decline, voids, RunTo, carried-answer, dwell-answer, granted-answer, last-answer};
 use lines::Downlink;
 use lines::Line;
 use lines::LineDebug;
 use lines::LinePartialEq;
+use lines::Place;
 use lines::Uplink;
 use schedule::Join;
 use schedule::JoinDebug;
@@ -28,6 +29,33 @@ pub enum SwitchDecline {
     NoMode,
     NoRoom,
     LineTaken(Line),
+}
+
+impl SwitchDecline {
+    pub fn number(self) -> u16
+        ensures { λ r. ⌜ r ≡ number self ⌝ }
+    {
+        match self {
+            SwitchDecline::LineAbove(_) => 4,
+            SwitchDecline::BadUnits => 5,
+            SwitchDecline::ModeOpen => 11,
+            SwitchDecline::NoMode => 12,
+            SwitchDecline::NoRoom => 13,
+            SwitchDecline::LineTaken(_) => 14,
+        }
+    }
+
+    pub fn place(self) -> Place
+        ensures { λ r. ⌜ r ≡ place self ⌝ }
+    {
+        match self {
+            SwitchDecline::LineAbove(line) | SwitchDecline::LineTaken(line) => Place::OnLine(line),
+            SwitchDecline::BadUnits
+            | SwitchDecline::ModeOpen
+            | SwitchDecline::NoMode
+            | SwitchDecline::NoRoom => Place::Nowhere,
+        }
+    }
 }
 
 pub trait Switch {

@@ -1,0 +1,4 @@
+pub mod Fronts
+pub mod Rules
+pub mod Turns
+pub mod Told
