@@ -1,0 +1,4 @@
+pub mod Layout
+pub mod Reader
+pub mod Files
+pub mod Reservations
