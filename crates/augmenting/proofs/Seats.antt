@@ -29,7 +29,7 @@ module _ (row t0 t t1 d : ℕ) (f : Picked row t t1 d) (since : (k : ℕ) → In
   pub new-at-first : has t0 d ≡ false
   new-at-first = not-before t0 t since d (f .new)
 
-fewer : (t0 t1 d : ℕ) → d < 16 → ((k : ℕ) → In t0 k → In t1 k) → has t0 d ≡ false → In t1 d → untried t1 < untried t0
+pub fewer : (t0 t1 d : ℕ) → d < 16 → ((k : ℕ) → In t0 k → In t1 k) → has t0 d ≡ false → In t1 d → untried t1 < untried t0
 unfolding untried
 fewer t0 t1 d lt grows new now =
     count-fewer 16 (λ k. not (has t1 k)) (λ k. not (has t0 k)) d lt

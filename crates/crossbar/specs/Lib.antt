@@ -1,0 +1,4 @@
+pub mod Carries
+pub mod Kept
+pub mod Made
+pub mod Shown

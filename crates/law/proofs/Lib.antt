@@ -1,0 +1,13 @@
+pub mod Carried
+pub mod Balance
+pub mod Pace
+pub mod Law
+pub mod One
+pub mod Said
+pub mod Bookings
+pub mod Batches
+pub mod Answering
+pub mod Shortfalls
+pub mod Stepping
+pub mod Going
+pub mod Performing

@@ -1,0 +1,4 @@
+mod Growth
+mod Steps
+mod Gains
+mod Rests

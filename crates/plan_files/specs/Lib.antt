@@ -1,0 +1,3 @@
+pub mod Declines
+pub mod Reading
+pub mod Encoding

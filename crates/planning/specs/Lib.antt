@@ -1,0 +1,5 @@
+pub mod Supports
+pub mod Making
+pub mod Best
+pub mod Kept
+pub mod Plans

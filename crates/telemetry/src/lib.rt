@@ -1,0 +1,12 @@
+// A switch that carries what a file of mode records reports.
+mod carrying;
+mod decline;
+mod making;
+mod report;
+
+pub use carrying::ReportCarrier;
+pub use decline::TelemetryDecline;
+pub use making::Telemetry;
+pub use making::check;
+pub use making::make;
+pub use report::Report;
