@@ -1,9 +1,9 @@
 // Reads a script from standard input and answers each line as it comes.
-use desk::Terminal;
 use replies::Reply;
 use std::io;
 use std::io::Read;
 use std::io::Stdin;
+use terminal::Terminal;
 
 fn print_reply(rt: &LibcRuntime, reply: &Reply) -> io::Result<()> {
     let line = reply.line(rt.alloc())?;
@@ -29,7 +29,7 @@ fn answer_part(
 fn main(rt: LibcRuntime) -> io::Result<()> {
     let mut input = rt.stdin();
     let mut buffer = [0u8; 4096];
-    let mut terminal = Terminal::new();
+    let mut terminal = Terminal::new(rt.alloc());
     for _ in 0..u64::MAX {
         if answer_part(&rt, &mut input, &mut buffer, &mut terminal)? == 0 {
             break;

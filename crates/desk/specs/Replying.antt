@@ -1,15 +1,35 @@
 -- What each request is answered, and what it leaves. Assumes nothing.
 use mathlib.Core.Path.{_≡_}
 use mathlib.Core.Bool.{Bool, true, false, cond, _&&_}
+use mathlib.Core.List.{List, [], _∷_, _++_}
+use mathlib.Core.Logic.{_⊎_}
 use Prim.Native.Nat.{ℕ}
+use lib.Dec.{eqb}
+use lib.ListN.{length}
 use Rattle.std.specs.Orderings.{When}
 use Rattle.std.specs.declared.option.Option.{Option}
 use Rattle.std.specs.declared.option.Option.the-variants.{Some, None}
-use Rattle.lines.specs.Matrix.{Matrix, nothing}
+use Rattle.lines.specs.Matrix.{Matrix, busiest, nothing}
 use Rattle.lines.specs.Verdicts.{or-same}
 use Rattle.owed.specs.declared.decline.OwedDecline.{OwedDecline}
 use Rattle.owed.specs.Calls as owed
 use Rattle.owed.specs.Calls.{number, make-decline, line-decline, add-decline, take-decline, added, taken}
+use Rattle.lines.specs.declared.Uplink.{Uplink}
+use Rattle.lines.specs.declared.Downlink.{Downlink}
+use Rattle.matching.specs.Answers.{Right}
+use Rattle.switch.specs.Meaning.{Meaning}
+use Rattle.crossbar.specs.Made.{fresh}
+use Rattle.crossbar.specs.Shown.{shown}
+use Rattle.simulator.specs.Faults.{rules-of}
+use Rattle.simulator.specs.Made.{rule-decline, rule-number}
+use Rattle.simulator.specs.declared.rules.FaultRule.{FaultRule}
+use Rattle.simulator.specs.declared.decline.RuleDecline.{RuleDecline}
+use Rattle.schedule.specs.declared.Mode.{Mode}
+use Rattle.schedule.specs.Modes.{span}
+use Rattle.planning.specs.Making.{MadeBy}
+use Rattle.planning.specs.Best.{Best}
+use Rattle.planning.specs.Plans.{number as plan-number}
+use Rattle.planning.specs.declared.decline.PlanDecline.the-variants.{NothingOwed, NoMemory}
 use Rattle.replies.specs.declared.Reply.{Reply}
 use Rattle.replies.specs.declared.Reply.the-variants as reply
 use Rattle.script.specs.declared.requests.Request.{Request}
@@ -46,13 +66,31 @@ lines-of d = lines-in (d .state)
 abbrev pub units-of : Desk → Matrix
 units-of d = units-in (d .state)
 
+-- what the simulator means, and its fault rules
+abbrev pub switch-of : Desk → Meaning
+switch-of d = shown (d .«switch» .fabric)
+
+abbrev pub faults-of : Desk → List FaultRule
+faults-of d = rules-of (d .«switch» .carrier)
+
+-- the fault rule that a request gives
+abbrev pub fault : Uplink → Downlink → ℕ → ℕ → FaultRule
+fault i j c t = record { up = i; down = j; most = c; from = t }
+
+abbrev pub fault-decline : Desk → FaultRule → Option RuleDecline
+fault-decline d f = rule-decline (switch-of d .lines) (faults-of d) f
+
+abbrev pub fault-reply : Option RuleDecline → Reply
+fault-reply None = reply.Ok
+fault-reply (Some e) = reply.No (rule-number e)
+
 -- which requests are served
 abbrev pub served : Request → Bool
 served (Lines n) = true
-served (Fault i j c t) = false
+served (Fault i j c t) = true
 served (Post i j u) = true
 served (Withdraw i j u) = true
-served Plan = false
+served Plan = true
 served Step = false
 served (Run b) = false
 served Drop = false
@@ -78,6 +116,33 @@ answer n m Step = out-of-place
 answer n m (Run b) = out-of-place
 answer n m Drop = out-of-place
 answer n m (Owed i j) = unless (line-decline n i j) (reply.Owed (m (i .0) (j .0)))
+
+-- a plan of Kuhn's engine for the units m owed on n lines, told by its number of modes, its length and the engine's letter
+pub record Planned (n : ℕ) (m : Matrix) (r : Reply) : Type 0 where
+  pub modes : List Mode
+  pub made : MadeBy Right n m modes
+  pub best : Best n m modes
+  pub told : r ≡ reply.Planned (length modes) (span modes) 75
+
+-- where units are owed, such a plan, or want of memory
+abbrev pub Shown : ℕ → Matrix → Reply → Type 0
+Shown n m r = Planned n m r ⊎ (r ≡ reply.No (plan-number NoMemory))
+
+-- what is told of a plan for the units m owed on n lines
+abbrev pub Shows : ℕ → Matrix → Reply → Type 0
+Shows n m r = When (eqb (busiest n m) 0) (r ≡ reply.No (plan-number NothingOwed)) (Shown n m r)
+
+-- r is an answer to a request: the one answer, but for the engine's choice of a plan
+abbrev pub Replied : Desk → Request → Reply → Type 0
+Replied d (Lines k) r = r ≡ answer (lines-of d) (units-of d) (Lines k)
+Replied d (Fault i j c t) r = r ≡ fault-reply (fault-decline d (fault i j c t))
+Replied d (Post i j u) r = r ≡ answer (lines-of d) (units-of d) (Post i j u)
+Replied d (Withdraw i j u) r = r ≡ answer (lines-of d) (units-of d) (Withdraw i j u)
+Replied d Plan r = Shows (lines-of d) (units-of d) r
+Replied d Step r = r ≡ out-of-place
+Replied d (Run b) r = r ≡ out-of-place
+Replied d Drop r = r ≡ out-of-place
+Replied d (Owed i j) r = r ≡ answer (lines-of d) (units-of d) (Owed i j)
 
 -- whether it is accepted
 abbrev pub is-ok : Reply → Bool
@@ -112,18 +177,50 @@ units-after n m (Run b) = m
 units-after n m Drop = m
 units-after n m (Owed i j) = m
 
+-- the most modes that the simulator takes
+abbrev pub room : ℕ
+room = 65535
+
+-- what the simulator means after it: it is made with the lines
+abbrev pub switch-after : Desk → Request → Meaning
+switch-after d (Lines k) = or-same (make-decline k) (fresh k room) (switch-of d)
+switch-after d (Fault i j c t) = switch-of d
+switch-after d (Post i j u) = switch-of d
+switch-after d (Withdraw i j u) = switch-of d
+switch-after d Plan = switch-of d
+switch-after d Step = switch-of d
+switch-after d (Run b) = switch-of d
+switch-after d Drop = switch-of d
+switch-after d (Owed i j) = switch-of d
+
+-- its fault rules after it
+abbrev pub faults-after : Desk → Request → List FaultRule
+faults-after d (Lines k) = or-same (make-decline k) [] (faults-of d)
+faults-after d (Fault i j c t) = or-same (fault-decline d (fault i j c t)) (faults-of d ++ (fault i j c t ∷ [])) (faults-of d)
+faults-after d (Post i j u) = faults-of d
+faults-after d (Withdraw i j u) = faults-of d
+faults-after d Plan = faults-of d
+faults-after d Step = faults-of d
+faults-after d (Run b) = faults-of d
+faults-after d Drop = faults-of d
+faults-after d (Owed i j) = faults-of d
+
 -- e is d, in all that a script can tell
 pub record Unchanged (d e : Desk) : Type 0 where
   pub stage : stage-of e ≡ stage-of d
   pub lines : lines-of e ≡ lines-of d
   pub units : (a b : ℕ) → units-of e a b ≡ units-of d a b
+  pub «switch» : switch-of e ≡ switch-of d
+  pub faults : faults-of e ≡ faults-of d
 
 -- a request in its place is answered r at d, which leaves e
 pub record Served (d : Desk) (q : Request) (r : Reply) (e : Desk) : Type 0 where
-  pub reply : r ≡ answer (lines-of d) (units-of d) q
+  pub reply : Replied d q r
   pub stage : stage-of e ≡ next (stage-of d) q (is-ok r)
   pub lines : lines-of e ≡ lines-after (lines-of d) q
   pub units : (a b : ℕ) → units-of e a b ≡ units-after (lines-of d) (units-of d) q a b
+  pub «switch» : switch-of e ≡ switch-after d q
+  pub faults : faults-of e ≡ faults-after d q
 
 -- a line that is unreadable or out of its place is answered so
 pub record Refused (d : Desk) (r : Reply) (e : Desk) : Type 0 where

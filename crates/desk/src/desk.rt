@@ -5,20 +5,32 @@ ghost use Rattle.std.specs.declared.option.Option.the-variants.{Some};
 ghost use Rattle.owed.specs.Calls.{number, lines-of as owed-lines, units-of as owed-units};
 ghost use Rattle.replies.specs.declared.Reply.the-variants.{Ok, No};
 ghost use Rattle.script.specs.Requests.{request-of};
-ghost use Rattle.script.specs.declared.requests.Request.the-variants.{Lines, Post, Withdraw, Owed as Asked};
-ghost use Rattle.desk.specs.declared.stage.Stage.the-variants.{Start};
-ghost use Rattle.desk.specs.Replying.{stage-of, lines-of, units-of, Served, Answers};
+ghost use Rattle.script.specs.declared.requests.Request.the-variants.{Lines, Fault, Post, Withdraw, Plan, Owed as Asked};
+ghost use Rattle.desk.specs.declared.stage.Stage.the-variants.{Start, Rules};
+ghost use Rattle.desk.specs.Replying.{stage-of, lines-of, units-of, Served, Shows, Answers};
 use super::stage::Stage;
+use kuhn::Kuhn;
+use kuhn::KuhnEngine;
 use lines::Downlink;
 use lines::Uplink;
+use matching::letter_of;
 use owed::Owed;
 use owed::OwedDecline;
+use planning::make_plan;
 use replies::Reply;
 use script::Request;
 use script::read_line;
+use simulator::FaultRule;
+use simulator::FaultRulesCarrier;
+use simulator::Simulator;
+use simulator::add_rule;
+use std::alloc::Global;
 
 // The number of a line that is unreadable or out of its place.
-const OUT_OF_PLACE: u8 = 19;
+const OUT_OF_PLACE: u16 = 19;
+
+// How many modes the simulator takes.
+const ROOM: u16 = 65535;
 
 // What a script has led to so far.
 #[derive(Clone, Copy)]
@@ -29,9 +41,11 @@ enum State {
 }
 
 // Answers the lines of a script.
-#[derive(Clone, Copy)]
+#[derive(Drop)]
 pub struct Desk {
+    heap: Global,
     state: State,
+    switch: Simulator,
 }
 
 // The answer to a call that was accepted or declined.
@@ -40,22 +54,38 @@ fn decided(result: Result<(), OwedDecline>) -> Reply
 {
     match result {
         Ok(()) => Reply::Ok,
-        Err(e) => Reply::No(e.number()),
+        Err(e) => Reply::No(u16::from(e.number())),
+    }
+}
+
+// What is told of the plan for what is owed.
+fn plan_reply(heap: Global, owed: &Owed) -> Reply
+    ensures { λ r. ⌜ Shows (owed-lines (now (owed .entry))) (owed-units (now (owed .entry))) r ⌝ }
+{
+    match make_plan(heap, &Kuhn, owed) {
+        Ok(plan) => Reply::Planned {
+            modes: plan.count(),
+            length: plan.length(),
+            letter: letter_of::<Kuhn>(),
+        },
+        Err(e) => Reply::No(u16::from(e.number())),
     }
 }
 
 impl Desk {
     // The beginning of a script.
-    pub fn new() -> Desk
+    pub fn new(heap: Global) -> Desk
         ensures { λ r. ⌜ stage-of r ≡ Start ⌝ }
     {
         Desk {
+            heap,
             state: State::Start,
+            switch: simulator::make(1, 0),
         }
     }
 
     // Where the script stands.
-    pub fn stage(&self) -> Stage
+    fn stage(&self) -> Stage
         ensures { λ r. ⌜ r ≡ stage-of (now (self .entry)) ⌝ }
     {
         match self.state {
@@ -73,8 +103,26 @@ impl Desk {
         match Owed::new(usize::from(lines)) {
             Ok(owed) => {
                 self.state = State::Rules(owed);
+                self.switch = simulator::make(usize::from(lines), ROOM);
                 Reply::Ok
             }
+            Err(e) => Reply::No(u16::from(e.number())),
+        }
+    }
+
+    // One more fault rule for the simulator.
+    fn add_fault(&mut self, up: Uplink, down: Downlink, most: u16, from: u16) -> Reply
+        requires { ⌜ stage-of (now self) ≡ Rules ⌝ }
+        ensures { λ r. ⌜ Served (now (self .entry)) (Fault up down most from) r (now (self .exit)) ⌝ }
+    {
+        let rule = FaultRule {
+            up,
+            down,
+            most,
+            from: u64::from(from),
+        };
+        match add_rule(&mut self.switch, rule) {
+            Ok(()) => Reply::Ok,
             Err(e) => Reply::No(e.number()),
         }
     }
@@ -120,8 +168,18 @@ impl Desk {
         self.state = State::Running(owed);
         match owed.units(up, down) {
             Ok(units) => Reply::Owed(units),
-            Err(e) => Reply::No(e.number()),
+            Err(e) => Reply::No(u16::from(e.number())),
         }
+    }
+
+    // Plans what is owed, afresh each time.
+    fn show_plan(&mut self) -> Reply
+        requires { ⌜ (stage-of (now self) ≡ Start → ⊥) ⌝ }
+        ensures { λ r. ⌜ Served (now (self .entry)) Plan r (now (self .exit)) ⌝ }
+    {
+        let owed = self.matrix();
+        self.state = State::Running(owed);
+        plan_reply(self.heap, &owed)
     }
 
     // What a request is answered.
@@ -136,8 +194,13 @@ impl Desk {
             Request::Post { up, down, units } => self.post(up, down, units),
             Request::Withdraw { up, down, units } => self.withdraw(up, down, units),
             Request::Owed { up, down } => self.ask(up, down),
-            Request::Fault { .. } => Reply::No(OUT_OF_PLACE),
-            Request::Plan => Reply::No(OUT_OF_PLACE),
+            Request::Fault {
+                up,
+                down,
+                most,
+                from,
+            } => self.add_fault(up, down, most, from),
+            Request::Plan => self.show_plan(),
             Request::Step => Reply::No(OUT_OF_PLACE),
             Request::Run(_) => Reply::No(OUT_OF_PLACE),
             Request::Drop => Reply::No(OUT_OF_PLACE),

@@ -64,7 +64,7 @@ pub enum Reply {
         cause: Cause,
     },
     Owed(u32),
-    No(u8),
+    No(u16),
 }
 
 pub impl fmt::Display for Reply as ReplyDisplay {

@@ -7,6 +7,4 @@ mod words;
 pub use commands::Command;
 pub use commands::parse;
 pub use requests::Request;
-pub use requests::RequestDebug;
-pub use requests::RequestPartialEq;
 pub use requests::read_line;

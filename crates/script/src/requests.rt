@@ -6,14 +6,10 @@ use super::commands::Command;
 use super::commands::parse;
 use super::numbers::number;
 use lines::Downlink;
-use lines::DownlinkDebug;
-use lines::DownlinkPartialEq;
 use lines::Uplink;
-use lines::UplinkDebug;
-use lines::UplinkPartialEq;
 
 // What a script line asks for.
-#[derive(Clone, Copy, PartialEq, Eq, Debug)]
+#[derive(Clone, Copy)]
 pub enum Request {
     Lines(u16),
     Fault {

@@ -3,6 +3,7 @@ mod carrying;
 mod decline;
 mod making;
 mod report;
+mod running;
 
 pub use carrying::ReportCarrier;
 pub use decline::TelemetryDecline;
@@ -10,3 +11,4 @@ pub use making::Telemetry;
 pub use making::check;
 pub use making::make;
 pub use report::Report;
+pub use running::run;
