@@ -1,18 +1,17 @@
 -- What an engine ends with: each uplink holds a downlink, or a closed set shows that one cannot. Assumes nothing.
-use mathlib.Core.Path.{_≡_, refl, sym, ap, _∙_, subst}
-use mathlib.Core.Bool.{Bool, true, false, _&&_}
+use mathlib.Core.Path.{_≡_, sym, ap, _∙_, subst}
+use mathlib.Core.Bool.{true, _&&_}
 use mathlib.Core.Logic.{_⊎_, inl, inr}
 use mathlib.Core.List.{List}
 use Prim.Native.Nat.{ℕ, _<_, _≤_}
 use native.Mathlib.Omega.{arith}
 use lib.Dec.{ltb}
-use lib.ListN.{getD}
-use Rattle.std.proofs.shelf.Tests.{cases-bool, cases-lt, and-from, and-parts, lt-ltb, ltb-true}
+use Rattle.std.proofs.shelf.Tests.{cases-bool, and-from, and-parts, lt-ltb, ltb-true}
 use Rattle.lines.specs.Sets.{has, In}
 use Rattle.lines.specs.Matrix.{downlink}
 use Rattle.lines.specs.declared.Downlink.{Downlink}
 use Rattle.matching.specs.Supports.{in-rows, Matching, Witness}
-use Rattle.matching.specs.Answers.{unused, mate-of, Unused}
+use Rattle.matching.specs.Answers.{mate-of, Unused}
 use Rattle.matching.proofs.Halls.{closed-witness}
 use Rattle.augmenting.specs.Holders.{Within, holder, Apart, Edges, Busy, Idle, Mated, Seated}
 

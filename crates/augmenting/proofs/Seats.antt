@@ -1,16 +1,14 @@
 -- The steps of a search for an augmenting path. Assumes nothing.
 use mathlib.Core.Path.{_≡_, refl, sym, ap, _∙_, subst}
-use mathlib.Core.Bool.{Bool, true, false, not, _&&_}
+use mathlib.Core.Bool.{true, false, not}
 use mathlib.Core.Logic.{_⊎_, inl, inr}
 use mathlib.Core.List.{List}
-use Prim.Native.Nat.{ℕ, _+_, _-_, _^_, _<_, _≤_}
+use Prim.Native.Nat.{ℕ, _-_, _<_, _≤_}
 use native.Mathlib.Omega.{arith}
-use lib.Bits.{bitAnd}
 use lib.ListN.{getD, set, length}
 use lib.Seq.{getD-set-same, getD-set-other}
-use Rattle.std.proofs.shelf.Tests.{cases-bool, cases-eq, both-ways, and-from, and-parts, not-true, not-from-true, not-from-false}
+use Rattle.std.proofs.shelf.Tests.{cases-bool, cases-eq, both-ways, not-true, not-from-true, not-from-false}
 use Rattle.lines.specs.Sets.{has, In}
-use Rattle.lines.proofs.Bits.{has-without}
 use Rattle.lines.proofs.Counts.{count-fewer}
 use Rattle.matching.specs.Supports.{in-rows}
 use Rattle.augmenting.specs.Holders.{holder, Picked, Apart, Idle, Tried, untried, Closed, Searched, Seated}

@@ -1,6 +1,4 @@
 // Partial matchings, and the search for an augmenting path, which both engines share.
-ghost use mathlib.Core.Path.{_≡_};
-ghost use Rattle.lines.specs.Sets.{has};
 ghost use Rattle.augmenting.specs.Holders.{Below, Within};
 
 mod pairing;

@@ -2,7 +2,7 @@
 use mathlib.Core.Path.{_≡_}
 use mathlib.Core.List.{List}
 use Prim.Native.Nat.{ℕ, _<_}
-use Rattle.lines.specs.Sets.{has, In}
+use Rattle.lines.specs.Sets.{In}
 use Rattle.augmenting.specs.Holders.{holder}
 
 -- the set of uplink k and the holders of the downlinks t

@@ -15,14 +15,14 @@ use Rattle.schedule.specs.declared.Mode.{Mode}
 use Rattle.schedule.specs.Modes.{span}
 use Rattle.owed.specs.declared.decline.OwedDecline.{OwedDecline}
 use Rattle.owed.specs.Calls.{line-decline}
+use Rattle.plan_files.specs.Encoding.{encoded}
 use Rattle.law.specs.declared.call.Call.the-variants.{Plan, Drop, Owed, Busiest, ModesLeft, LengthLeft, Write}
 use Rattle.law.specs.declared.answer.Answer.the-variants.{Accepted, Planned, Units, Wrote, Declined}
 use Rattle.law.specs.declared.decline.SessionDecline.{SessionDecline}
 use Rattle.law.specs.declared.decline.SessionDecline.the-variants.{NothingOwed, Booking, ShortBuffer, NoMemory}
 use Rattle.law.specs.States.{State, Plan as Standing, idle, planned, modes-left, with-plan}
-use Rattle.law.specs.Refusals.{unless-planned, mode-size, booking, refusal}
-use Rattle.law.specs.Written.{encoded}
-use Rattle.law.specs.Calls.{Maker, Still, Does, does, wants-memory}
+use Rattle.law.specs.Refusals.{mode-size, booking, refusal}
+use Rattle.law.specs.Calls.{Maker, Does, does, wants-memory}
 use Rattle.law.proofs.Said.{past-6, past-9, declined-so}
 
 -- a plan on a session without one

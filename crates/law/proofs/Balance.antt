@@ -1,5 +1,5 @@
 -- Posted units are withdrawn, carried or still owed. Assumes nothing.
-use mathlib.Core.Path.{_≡_, refl, sym, ap, subst, _∙_}
+use mathlib.Core.Path.{_≡_, refl, sym, ap, subst}
 use mathlib.Core.List.{List, [], _∷_, _++_}
 use Prim.Native.Nat.{ℕ, _+_, _≤_}
 use native.Mathlib.Omega.{arith}
@@ -9,9 +9,9 @@ use Rattle.law.specs.declared.call.Call.{Call}
 use Rattle.law.specs.declared.call.Call.the-variants.{Post, Withdraw, Batch, Plan, Step, Run, Drop, Owed, Busiest, ModesLeft, LengthLeft, Write}
 use Rattle.law.specs.declared.answer.Answer.{Answer}
 use Rattle.law.specs.declared.answer.Answer.the-variants.{Accepted, Planned, Stepped, Ran, Units, Wrote, Declined}
-use Rattle.law.specs.States.{State, with-plan}
-use Rattle.law.specs.Runs.{ModeRun, Advanced, Chain, last}
-use Rattle.law.specs.Calls.{Maker, Still, Books, Yields, Does, does, does-not, wants-memory}
+use Rattle.law.specs.States.{State}
+use Rattle.law.specs.Runs.{ModeRun, Chain, last}
+use Rattle.law.specs.Calls.{Maker, Books, Yields, Does, does, does-not, wants-memory}
 use Rattle.law.specs.History.{Moment, ends, Linked, brings, takes, if-accepted, posted, withdrawn, Made, Balanced}
 
 -- from s to t the switch has carried no less, and the ledger has these entries

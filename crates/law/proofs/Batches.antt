@@ -1,24 +1,23 @@
 -- Batches, as a session shows them: records posted one after the other. Assumes nothing.
 use mathlib.Core.Path.{_≡_, refl, sym, ap, subst, _∙_}
-use mathlib.Core.Bool.{true, false, cond}
+use mathlib.Core.Bool.{cond}
 use mathlib.Core.List.{List, [], _∷_}
 use Prim.Native.Nat.{ℕ, _+_, _%_, _≤_, _<_}
 use native.Mathlib.Omega.{arith}
-use lib.Dec.{eqb}
 use lib.ListN.{length, drop}
 use denote.Ref.{RefT}
 use Rattle.std.specs.declared.option.Option.{Option}
 use Rattle.std.specs.declared.option.Option.the-variants.{Some, None}
 use Rattle.std.proofs.shelf.Tests.{eq-eqb, ne-eqb}
 use Rattle.std.proofs.shelf.Lists.{drop-all}
-use Rattle.lines.specs.Matrix.{Matrix, only}
+use Rattle.lines.specs.Matrix.{Matrix}
 use Rattle.lines.specs.Verdicts.{or-else}
 use Rattle.owed.specs.declared.decline.OwedDecline.{OwedDecline}
 use Rattle.owed.specs.Calls.{add-decline, added}
 use Rattle.records.specs.declared.reservation.Reservation.{Reservation}
 use Rattle.records.specs.Reservations.{how-many, reservation-at, reservations}
 use Rattle.records.proofs.Reservations.{length-reservations, drop-reservations}
-use Rattle.law.specs.declared.call.Call.the-variants.{Batch, Plan}
+use Rattle.law.specs.declared.call.Call.the-variants.{Batch}
 use Rattle.law.specs.declared.answer.Answer.{Answer}
 use Rattle.law.specs.declared.answer.Answer.the-variants.{Accepted, Declined}
 use Rattle.law.specs.declared.decline.SessionDecline.{SessionDecline}

@@ -1,16 +1,14 @@
 -- Several modes run in one call, as a session shows it. Assumes nothing.
 use mathlib.Core.Path.{_≡_, refl, sym, ap, subst, _∙_}
-use mathlib.Core.Bool.{Bool, true, false, cond}
+use mathlib.Core.Bool.{true, false, cond}
 use mathlib.Core.List.{List, [], _∷_, _++_}
 use Prim.Native.Nat.{ℕ, _+_, _≤_, _<_}
 use native.Mathlib.Omega.{arith}
-use lib.Dec.{eqb, ltb}
 use lib.ListN.{length, length-append}
 use Rattle.std.specs.declared.option.Option.{Option}
 use Rattle.std.specs.declared.option.Option.the-variants.{Some, None}
 use Rattle.std.proofs.shelf.Tests.{ne-eqb, eq-eqb}
 use Rattle.std.proofs.shelf.Ways.{tells}
-use Rattle.schedule.specs.declared.Mode.{Mode}
 use Rattle.law.specs.declared.call.Call.the-variants.{Step, Run}
 use Rattle.law.specs.declared.answer.Cause.{Cause}
 use Rattle.law.specs.declared.answer.Cause.the-variants.{End, Short, Stop, Budget}
@@ -21,8 +19,8 @@ use Rattle.law.specs.declared.decline.SessionDecline.the-variants.{NoBudget}
 use Rattle.law.specs.States.{State, Plan as Standing, idle, planned, stands}
 use Rattle.law.specs.Runs.{ModeRun, Advanced, Chain, last, missed, short, shortfall}
 use Rattle.law.specs.Refusals.{if-planned, next-decline, refusal}
-use Rattle.law.specs.Calls.{Maker, Steps, Whole, LastShort, why, Continues, Does, does, does-not, wants-memory}
-use Rattle.law.proofs.Said.{past-9, declined-so}
+use Rattle.law.specs.Calls.{Maker, Whole, LastShort, why, Does, does, does-not, wants-memory}
+use Rattle.law.proofs.Said.{declined-so}
 use Rattle.law.proofs.One.{next-free}
 use Rattle.law.proofs.Shortfalls.{whole-none, short-some}
 
@@ -74,19 +72,16 @@ last-short-push : (rs : List ModeRun) (r : ModeRun) → short rs ≡ 0 → LastS
 last-short-push [] r e = (tt, tt)
 last-short-push (x ∷ xs) r e = (before-any x (xs ++ r ∷ []) (omega arith), last-short-push xs r (omega arith))
 
--- the call is not declined where a mode was run
+-- 9 is passed where a plan stands
 stands-planned : (p : Standing) (next : Option SessionDecline) → stands p ≡ true → if-planned p next ≡ next
 stands-planned idle next e = let z : _≡_ {A = ℕ} 0 1 = cc in absurd (omega arith)
 stands-planned (planned k ms) next e = refl
-
-idle-next : (p : Standing) (s : State) → stands p ≡ false → next-decline p (s .switch) ≡ if-planned p None
-idle-next idle s e = refl
-idle-next (planned k ms) s e = let z : _≡_ {A = ℕ} 0 1 = cc in absurd (omega arith)
 
 -- a run of at least one mode is declined as a step is
 pub run-refusal : (s : State) (b size : ℕ) → (b ≡ 0 → ⊥) → stands (s .plan) ≡ true → refusal (Run b) size s ≡ next-decline (s .plan) (s .switch)
 run-refusal s b size ne on = stands-planned (s .plan) _ on ∙ ap (λ x. cond x (Some NoBudget) (next-decline (s .plan) (s .switch))) (ne-eqb b 0 ne)
 
+-- the call is not declined where a mode was run
 chain-stands : (s : State) (rs : List ModeRun) → Chain s rs → 1 ≤ length rs → stands (s .plan) ≡ true
 chain-stands s [] h k = absurd (omega arith)
 chain-stands s (r ∷ rs) h k = ap stands (h .0 .stood)
@@ -110,9 +105,6 @@ module _ {M : Maker} (b count : ℕ) (cause : Cause) (rs : List ModeRun) (before
         buffer = buffer;
         state = end;
       })
-
-never-stop : {A : Type 0} (c d : Cause) → c ≡ d → (d ≡ Stop → ⊥) → c ≡ Stop → A
-never-stop c d e ne f = absurd (ne (sym e ∙ f))
 
 module _ {s t : State} {k : ℕ} (w : Going s t k) where
   module _ {u : State} {x : Option Shortfall} (m : StepTo t u x) where

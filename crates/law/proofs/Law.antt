@@ -1,26 +1,24 @@
 -- The law of every list of calls, and of one call more. Assumes nothing.
 use mathlib.Core.Path.{_≡_, refl, sym, ap, subst, _∙_}
 use mathlib.Core.List.{List, [], _∷_, _++_}
-use Prim.Native.Nat.{ℕ, _+_, _≤_, _<_}
+use Prim.Native.Nat.{ℕ}
 use native.Mathlib.Omega.{arith}
 use lib.ListN.{length}
-use Rattle.lines.specs.Matrix.{Matrix, busiest}
+use Rattle.lines.specs.Matrix.{Matrix}
 use Rattle.schedule.specs.declared.Mode.{Mode}
-use Rattle.schedule.specs.Modes.{span, Serves}
-use Rattle.schedule.specs.OpenShop.{Shop, OpenShop, unfolded}
+use Rattle.schedule.specs.Modes.{span}
 use Rattle.schedule.proofs.Modes.{no-shorter}
 use Rattle.schedule.proofs.Shops.{no-shorter-shop}
 use Rattle.schedule.proofs.Unfolded.{unfolds}
-use Rattle.switch.specs.Meaning.{Meaning}
 use Rattle.law.specs.declared.call.Call.{Call}
 use Rattle.law.specs.declared.call.Call.the-variants.{Post, Withdraw, Batch, Plan, Step, Run, Drop, Owed, Busiest, ModesLeft, LengthLeft, Write}
 use Rattle.law.specs.declared.answer.Answer.{Answer}
 use Rattle.law.specs.declared.answer.Answer.the-variants.{Accepted, Planned, Stepped, Ran, Units, Wrote, Declined}
-use Rattle.law.specs.States.{State, Plan as Standing, planned, modes-left, with-plan}
-use Rattle.law.specs.Runs.{ModeRun, Advanced, Chain, last}
-use Rattle.law.specs.Calls.{Maker, Still, Books, Plans, Yields, Does, does, does-not, wants-memory}
-use Rattle.law.specs.History.{Moment, ends, Linked, Shortest, Made, Makes, Law, Every-list}
-use Rattle.law.specs.Stories.{Story, Next, Lawful}
+use Rattle.law.specs.States.{State, Plan as Standing, planned}
+use Rattle.law.specs.Runs.{ModeRun, Chain, last}
+use Rattle.law.specs.Calls.{Maker, Yields, Does, does, does-not, wants-memory}
+use Rattle.law.specs.History.{Moment, ends, Linked, Shortest, Makes, Every-list}
+use Rattle.law.specs.Stories.{Next, Lawful}
 use Rattle.law.proofs.Balance.{balance}
 use Rattle.law.proofs.Pace.{pace}
 

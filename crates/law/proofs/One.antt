@@ -1,12 +1,12 @@
 -- A call has one answer and one effect, but for what the switch chooses and the plan that is made. Assumes nothing.
 use mathlib.Core.Path.{_≡_, refl, sym, ap, subst, _∙_}
-use mathlib.Core.Bool.{Bool, true, false, cond}
+use mathlib.Core.Bool.{true, cond}
 use mathlib.Core.Logic.{_⊎_, inl, inr}
 use mathlib.Core.List.{List, [], _∷_, _++_}
-use Prim.Native.Nat.{ℕ, suc, _+_, _≤_, _<_}
+use Prim.Native.Nat.{ℕ, suc, _<_}
 use native.Mathlib.Omega.{arith}
 use lib.Dec.{eqb, ltb}
-use lib.ListN.{length, drop, length-append}
+use lib.ListN.{length, length-append}
 use Rattle.std.specs.declared.option.Option.{Option}
 use Rattle.std.specs.declared.option.Option.the-variants.{Some, None}
 use Rattle.std.proofs.shelf.Ways.{tells}
@@ -21,7 +21,7 @@ use Rattle.law.specs.declared.call.Call.the-variants.{Post, Withdraw, Batch, P
 use Rattle.law.specs.declared.answer.Cause.{Cause}
 use Rattle.law.specs.declared.answer.Cause.the-variants.{End, Short, Stop, Budget}
 use Rattle.law.specs.declared.answer.Answer.{Answer}
-use Rattle.law.specs.declared.answer.Answer.the-variants.{Accepted, Planned, Stepped, Ran, Units, Wrote, Declined}
+use Rattle.law.specs.declared.answer.Answer.the-variants.{Planned, Stepped, Ran, Declined}
 use Rattle.law.specs.declared.decline.SessionDecline.{SessionDecline}
 use Rattle.law.specs.States.{State, Plan as Standing, idle, planned, stands, onward, with-plan}
 use Rattle.law.specs.Runs.{ModeRun, Advanced, Chain, last, carried-by, missed, short, shortfall}

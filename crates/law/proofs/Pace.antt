@@ -1,11 +1,11 @@
 -- Between two moments with nothing posted or withdrawn, the clock rises by what leaves the busiest line, and by no more than what fell short besides. Assumes nothing.
 use mathlib.Core.Path.{_≡_, refl, sym, ap, subst, _∙_}
 use mathlib.Core.List.{List, [], _∷_, _++_}
-use Prim.Native.Nat.{ℕ, _+_, _-_, _≤_, _<_}
+use Prim.Native.Nat.{ℕ, _+_, _-_, _≤_}
 use native.Mathlib.Omega.{arith}
 use Rattle.lines.specs.declared.Line.{Line}
-use Rattle.lines.specs.Matrix.{Matrix, Inside, load, busiest, nothing}
-use Rattle.lines.proofs.Loads.{load-same, load-le, load-add, busiest-bound, load-busiest}
+use Rattle.lines.specs.Matrix.{Matrix, Inside, load, busiest}
+use Rattle.lines.proofs.Loads.{load-same, load-add, busiest-bound, load-busiest}
 use Rattle.schedule.specs.declared.Mode.{Mode}
 use Rattle.schedule.specs.Modes.{AllSound, span, granted, grants, Serves}
 use Rattle.schedule.proofs.Modes.{load-mode, load-span}
@@ -13,7 +13,6 @@ use Rattle.switch.specs.Meaning.{Meaning}
 use Rattle.law.specs.declared.call.Call.{Call}
 use Rattle.law.specs.declared.call.Call.the-variants.{Post, Withdraw, Batch, Plan, Step, Run, Drop, Owed, Busiest, ModesLeft, LengthLeft, Write}
 use Rattle.law.specs.declared.answer.Answer.{Answer}
-use Rattle.law.specs.declared.answer.Answer.the-variants.{Accepted}
 use Rattle.law.specs.States.{State, Plan as Standing, idle, planned, onward, with-plan}
 use Rattle.law.specs.Runs.{ModeRun, Advanced, Chain, last, carried-by, missed, short}
 use Rattle.law.specs.Calls.{Maker, Still, Books, Yields, Does, does, does-not, wants-memory}

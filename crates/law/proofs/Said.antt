@@ -1,23 +1,20 @@
 -- How a session shows what a call did: declines, and what the tests of the code say of them. Assumes nothing.
-use mathlib.Core.Path.{_≡_, refl, sym, ap, subst, _∙_}
-use mathlib.Core.Bool.{cond}
+use mathlib.Core.Path.{_≡_, refl, ap}
 use mathlib.Core.List.{List, []}
 use Prim.Native.Nat.{ℕ}
 use lib.ListN.{length}
 use Rattle.std.specs.declared.option.Option.{Option}
 use Rattle.std.specs.declared.option.Option.the-variants.{Some, None}
-use Rattle.std.specs.declared.result.Result.{Result}
 use Rattle.std.specs.declared.result.Result.the-variants.{Ok, Err}
 use Rattle.lines.specs.Verdicts.{answered, told}
 use Rattle.schedule.specs.declared.Mode.{Mode}
 use Rattle.law.specs.declared.call.Call.{Call}
-use Rattle.law.specs.declared.answer.Answer.{Answer}
 use Rattle.law.specs.declared.answer.Answer.the-variants.{Declined}
 use Rattle.law.specs.declared.decline.SessionDecline.{SessionDecline}
 use Rattle.law.specs.declared.decline.SessionDecline.the-variants.{PlanStands, NoPlan}
-use Rattle.law.specs.States.{State, Plan as Standing, idle, planned, stands}
+use Rattle.law.specs.States.{State, Plan as Standing, idle, planned}
 use Rattle.law.specs.Refusals.{unless-planned, if-planned, refusal}
-use Rattle.law.specs.Calls.{Maker, Still, Does, does-not}
+use Rattle.law.specs.Calls.{Maker, Does, does-not}
 
 -- the same state, part by part
 pub same-state : (s t : State) → t .lines ≡ s .lines → ((a b : ℕ) → t .owed a b ≡ s .owed a b) → t .plan ≡ s .plan → t .switch ≡ s .switch → t ≡ s

@@ -1,6 +1,6 @@
 -- One mode run, as a session shows it. Assumes nothing.
 use mathlib.Core.Path.{_≡_, refl, sym, ap, subst, _∙_}
-use mathlib.Core.Logic.{_⊎_, inl, inr}
+use mathlib.Core.Logic.{inl, inr}
 use mathlib.Core.List.{List, [], _∷_}
 use Prim.Native.Nat.{ℕ, _+_, _≤_, _<_}
 use native.Mathlib.Omega.{arith}
@@ -23,7 +23,7 @@ use Rattle.law.specs.declared.call.Call.the-variants.{Step}
 use Rattle.law.specs.declared.answer.Shortfall.{Shortfall}
 use Rattle.law.specs.declared.answer.Answer.the-variants.{Stepped, Declined}
 use Rattle.law.specs.declared.decline.SessionDecline.the-variants.{Mode as OfMode}
-use Rattle.law.specs.States.{State, Plan as Standing, idle, planned, onward}
+use Rattle.law.specs.States.{State, Plan as Standing, planned, onward}
 use Rattle.law.specs.Runs.{ModeRun, Advanced, carried-by, shortfall}
 use Rattle.law.specs.Refusals.{of-mode, next-decline}
 use Rattle.law.specs.Calls.{Maker, Does, does}

@@ -2,16 +2,16 @@
 use mathlib.Core.Path.{_≡_}
 use mathlib.Core.Bool.{cond}
 use mathlib.Core.List.{List, [], _∷_, _++_}
-use Prim.Native.Nat.{ℕ, _+_, _*_, _≤_, _<_}
+use Prim.Native.Nat.{ℕ, _+_, _*_, _≤_}
 use lib.Dec.{eqb, ltb}
 use lib.ListN.{length, drop}
-use Rattle.std.specs.declared.option.Option.{Option}
 use Rattle.std.specs.declared.option.Option.the-variants.{Some, None}
 use Rattle.lines.specs.Matrix.{Matrix, busiest, only, nothing}
 use Rattle.schedule.specs.declared.Mode.{Mode}
 use Rattle.schedule.specs.Modes.{span}
 use Rattle.records.specs.declared.reservation.Reservation.{Reservation}
 use Rattle.records.specs.Reservations.{reservations}
+use Rattle.plan_files.specs.Encoding.{encoded}
 use Rattle.law.specs.declared.call.Call.{Call}
 use Rattle.law.specs.declared.call.Call.the-variants.{Post, Withdraw, Batch, Plan, Step, Run, Drop, Owed, Busiest, ModesLeft, LengthLeft, Write}
 use Rattle.law.specs.declared.answer.Cause.{Cause}
@@ -23,7 +23,6 @@ use Rattle.law.specs.declared.decline.SessionDecline.the-variants.{NoMemory}
 use Rattle.law.specs.States.{State, idle, planned, stands, modes-left, with-plan}
 use Rattle.law.specs.Runs.{ModeRun, Advanced, Chain, last, missed, short, shortfall}
 use Rattle.law.specs.Refusals.{mode-size, next-decline, refusal}
-use Rattle.law.specs.Written.{encoded}
 
 -- which schedules may be made for a matrix on n lines
 abbrev pub Maker : Type 1

@@ -2,9 +2,7 @@
 use Prim.Native.Nat.{ℕ}
 use Rattle.lines.specs.declared.Place.{Place}
 use Rattle.lines.specs.declared.Place.the-variants.{Nowhere}
-use Rattle.owed.specs.declared.decline.OwedDecline.{OwedDecline}
 use Rattle.owed.specs.Calls.{number as owed-number, place as owed-place}
-use Rattle.driver.specs.declared.DriverDecline.{DriverDecline}
 use Rattle.driver.specs.Answers.{number as driver-number, place as driver-place}
 use Rattle.law.specs.declared.decline.SessionDecline.{SessionDecline}
 use Rattle.law.specs.declared.decline.SessionDecline.the-variants.{PlanStands, NoPlan, NothingOwed, NoBudget, Booking, PartRecord, Record, Mode, ShortBuffer, NoMemory}

@@ -1,7 +1,7 @@
 -- Lists of calls on one session, and the law that holds of them. Assumes nothing.
 use mathlib.Core.Path.{_≡_}
 use mathlib.Core.List.{List, [], _∷_, _++_}
-use Prim.Native.Nat.{ℕ, _+_, _≤_, _<_}
+use Prim.Native.Nat.{ℕ, _+_, _≤_}
 use lib.ListN.{length as size}
 use Rattle.lines.specs.Matrix.{Matrix, busiest, only, nothing}
 use Rattle.schedule.specs.declared.Mode.{Mode}

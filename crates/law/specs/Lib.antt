@@ -2,7 +2,6 @@ pub mod Declines
 pub mod States
 pub mod Runs
 pub mod Refusals
-pub mod Written
 pub mod Calls
 pub mod History
 pub mod Stories

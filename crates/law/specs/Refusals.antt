@@ -18,7 +18,7 @@ use Rattle.steps.specs.WholeMode.{start-decline}
 use Rattle.law.specs.declared.call.Call.{Call}
 use Rattle.law.specs.declared.call.Call.the-variants.{Post, Withdraw, Batch, Plan, Step, Run, Drop, Owed, Busiest, ModesLeft, LengthLeft, Write}
 use Rattle.law.specs.declared.decline.SessionDecline.{SessionDecline}
-use Rattle.law.specs.declared.decline.SessionDecline.the-variants.{PlanStands, NoPlan, NothingOwed, NoBudget, Booking, PartRecord, Record, Mode, ShortBuffer, NoMemory}
+use Rattle.law.specs.declared.decline.SessionDecline.the-variants.{PlanStands, NoPlan, NothingOwed, NoBudget, Booking, PartRecord, Record, Mode, ShortBuffer}
 use Rattle.law.specs.States.{State, Plan as Standing, idle, planned, modes-left}
 
 -- the bytes of a reservation, and of a mode

@@ -2,7 +2,7 @@
 use mathlib.Core.Path.{_≡_}
 use mathlib.Core.Bool.{cond}
 use mathlib.Core.List.{List, [], _∷_}
-use Prim.Native.Nat.{ℕ, _+_, _-_, _<_, _≤_}
+use Prim.Native.Nat.{ℕ, _+_, _-_, _<_}
 use lib.Dec.{ltb}
 use lib.ListN.{length, getD}
 use Rattle.std.specs.Options.{Cases}
@@ -17,7 +17,7 @@ use Rattle.switch.specs.Meaning.{most-lines}
 use Rattle.switch.specs.Calls.{CarriesAt, carried-to}
 use Rattle.steps.specs.WholeMode.{start-decline, carries}
 use Rattle.law.specs.declared.answer.Shortfall.{Shortfall}
-use Rattle.law.specs.States.{State, Plan, planned, onward}
+use Rattle.law.specs.States.{State, planned, onward}
 
 -- a mode that was run, what became of each uplink's grant, and the state after
 pub record ModeRun : Type 0 where

@@ -1,6 +1,6 @@
 -- The searches of a round, one after another: where the steps lead to a free downlink, they do not all fail. Assumes nothing.
 use mathlib.Core.Path.{_≡_, refl, sym, ap, _∙_, subst}
-use mathlib.Core.Bool.{Bool, true, false, not, _&&_}
+use mathlib.Core.Bool.{true, false, not}
 use mathlib.Core.Logic.{_⊎_, inl, inr}
 use mathlib.Core.List.{List}
 use Prim.Native.Nat.{ℕ, _+_, _<_, _≤_}
@@ -12,7 +12,7 @@ use Rattle.matching.specs.Supports.{in-rows}
 use Rattle.augmenting.specs.Holders.{holder, Busy, Idle, Closed, Searched, Seated}
 use Rattle.augmenting.proofs.Seats.{closed-start}
 use Rattle.augmenting.proofs.Ends.{busy-after, busy-before}
-use Rattle.layered.specs.Layers.{Roots, Followed, Leads, Moved, Round}
+use Rattle.layered.specs.Layers.{Roots, Leads, Moved, Round}
 
 -- the searches from the roots below b all failed, and t have been tried
 pub record Failed (steps hs : List ℕ) (roots b t : ℕ) : Type 0 where

@@ -1,19 +1,18 @@
 -- The layers of a round, one after another. Assumes nothing.
 use mathlib.Core.Path.{_≡_, refl, sym, ap, _∙_, subst}
-use mathlib.Core.Bool.{Bool, true, false, not, _&&_, _||_}
+use mathlib.Core.Bool.{true, false, not, _&&_, _||_}
 use mathlib.Core.Logic.{_⊎_, inl, inr}
 use mathlib.Core.List.{List}
 use Prim.Native.Nat.{ℕ, _<_, _≤_}
-use native.Mathlib.Omega.{arith}
 use lib.Dec.{ltb}
 use lib.ListN.{getD}
 use Rattle.std.proofs.shelf.Tests.{cases-bool, both-ways, and-from, and-parts, and-cases, or-cases, or-left, or-right, not-true, not-from-false, lt-ltb, ltb-true, ltb-false}
 use Rattle.lines.specs.Sets.{has, In}
 use Rattle.lines.proofs.Bits.{has-zero}
 use Rattle.matching.specs.Supports.{in-rows}
-use Rattle.augmenting.specs.Holders.{holder, Apart, Busy, Idle, untried}
+use Rattle.augmenting.specs.Holders.{holder, Apart, Busy, untried}
 use Rattle.augmenting.proofs.Seats.{fewer}
-use Rattle.layered.specs.Layers.{Roots, Stepped, Followed, Leads, Layering}
+use Rattle.layered.specs.Layers.{Roots, Stepped, Followed, Layering}
 
 -- The layers so far: layer is the last one of uplinks, and seen are the downlinks before it.
 pub record Growing (rows hs : List ℕ) (roots : ℕ) (steps : List ℕ) (layer reached seen : ℕ) : Type 0 where

@@ -1,8 +1,4 @@
 // The layers of one round, breadth first: uplinks that hold nothing, the downlinks of their rows, the holders of these, and so on.
-ghost use mathlib.Core.Path.{_≡_};
-ghost use Prim.Native.Nat.{ℕ, _<_};
-ghost use Rattle.lines.specs.Sets.{In};
-ghost use Rattle.augmenting.specs.Holders.{Apart, Idle};
 ghost use Rattle.layered.specs.Layers.{Roots, Stepped, Layering};
 use augmenting::Pairing;
 use lines::has_line;

@@ -1,6 +1,4 @@
 // The engine by layers, as of Hopcroft and Karp: rounds of shortest augmenting paths.
-ghost use mathlib.Core.Path.{_≡_};
-ghost use Prim.Native.Nat.{_≤_};
 ghost use Rattle.matching.specs.Answers.{Right};
 
 mod layers;

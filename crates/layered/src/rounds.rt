@@ -1,6 +1,6 @@
 // The rounds: layers, and then augmenting paths from layer to layer that share no downlink.
 ghost use mathlib.Core.Path.{_≡_};
-ghost use Prim.Native.Nat.{ℕ, _≤_};
+ghost use Prim.Native.Nat.{_≤_};
 ghost use Rattle.std.specs.Results.{Cases};
 ghost use Rattle.matching.specs.Answers.{Right};
 ghost use Rattle.layered.specs.Layers.{Roots, Leads, Round, Left, Gained, Ended};

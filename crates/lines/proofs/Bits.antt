@@ -1,20 +1,20 @@
 -- What the bits of a set's number are: of the empty set, a single line, all lines below n, and of sets joined, met and taken away. Assumes nothing.
 use mathlib.Core.Path.{_≡_, refl, sym, ap, ap₂, _∙_, subst}
-use mathlib.Core.Bool.{Bool, true, false, not, cond, _||_, _&&_, or-false}
-use mathlib.Core.Logic.{_⊎_, inl, inr}
-use Prim.Native.Nat.{ℕ, zero, suc, _+_, _-_, _*_, _/_, _%_, _^_, _<_, _≤_, min, max, differ}
+use mathlib.Core.Bool.{true, false, not, cond, _||_, _&&_, or-false}
+use mathlib.Core.Logic.{inl, inr}
+use Prim.Native.Nat.{ℕ, zero, suc, _+_, _-_, _*_, _/_, _%_, _^_, _<_, _≤_}
 use native.Mathlib.Omega.{arith}
-use native.Mathlib.Nat.{mod-lt, zero-div, one-mul, div-eq-of-lt, div-one, mod-eq-of-lt, pow-suc, mul-mod-left, div-add-mod', add-zero, add-suc}
+use native.Mathlib.Nat.{mod-lt, zero-div, one-mul, div-eq-of-lt, div-one, mod-eq-of-lt, pow-suc, mul-mod-left}
 use native.Mathlib.Numerals.{one-add, add-one}
 use lib.Dec.{eqb, ltb, lit<}
 use lib.Bits.{bitAnd, bitOr, bitXor, or-shr, or-mod, and-shr, and-mod, xor-shr, xor-mod, and-mask, xor-add-and}
-use lib.Arith.{bin-ind, lt-one}
+use lib.Arith.{lt-one}
 use lib.Pow.{pow-pos, pow-mono, ones-split, high, shr-lt}
 use lib.Count.{ones, ones-step, trailingZeros, under}
 use Rattle.std.proofs.shelf.Bits.{pow-add, pow-below, shl-shr, shr-shr}
 use Rattle.std.proofs.shelf.Tests.{cases-lt, cases-bool, both-ways, or-right, and-left, le-ltb, lt-ltb}
 use Rattle.lines.specs.Sets.{has, In, size}
-use Rattle.lines.specs.Sums.{count-below, one-if}
+use Rattle.lines.specs.Sums.{one-if}
 use Rattle.lines.proofs.Sums.{sum-front}
 use Rattle.lines.proofs.Counts.{count-same}
 

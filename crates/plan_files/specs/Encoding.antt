@@ -15,6 +15,7 @@ use Rattle.lines.specs.Matrix.{Matrix}
 use Rattle.schedule.specs.declared.Join.{Join}
 use Rattle.schedule.specs.declared.Mode.{Mode}
 use Rattle.schedule.specs.Modes.{AllSound, Serves}
+use Rattle.records.specs.Layout.{unused, no-grant}
 use Rattle.records.specs.Files.{most-records, Schedules}
 use Rattle.plan_files.specs.declared.decline.ReadDecline.{ReadDecline}
 use Rattle.plan_files.specs.declared.decline.ReadDecline.the-variants.{Size, Improper, NoMemory}
@@ -24,14 +25,14 @@ use Rattle.plan_files.specs.declared.read.PlanFile.{PlanFile}
 use Rattle.plan_files.specs.Declines.{write-decline}
 use Rattle.plan_files.specs.Reading.{Lines, Says, Tells, Untold}
 
--- no grant
+-- the entry of an uplink without a grant
 abbrev pub idle-bytes : List ℕ
-idle-bytes = 255 ∷ 0 ∷ 0 ∷ []
+idle-bytes = no-grant ∷ 0 ∷ 0 ∷ []
 
 -- the downlink, then the units with the high byte first; a number that no entry can name is no grant
 abbrev pub grant-bytes : Option Join → List ℕ
 grant-bytes None = idle-bytes
-grant-bytes (Some x) = cond (ltb (x .down .0) 254) (x .down .0 ∷ x .units / 256 ∷ x .units % 256 ∷ []) idle-bytes
+grant-bytes (Some x) = cond (ltb (x .down .0) unused) (x .down .0 ∷ x .units / 256 ∷ x .units % 256 ∷ []) idle-bytes
 
 -- the dwell with the high byte first, the number of lines, a zero byte
 abbrev pub header : ℕ → Mode → List ℕ

@@ -8,27 +8,22 @@ ghost use Rattle.lines.specs.Verdicts.{told, or-same};
 ghost use Rattle.plan_files.specs.Declines.{write-decline};
 ghost use Rattle.plan_files.specs.Encoding.{grant-bytes, encode, encoded, Full, Comes-back, Serves-on};
 use super::decline::WriteDecline;
+use records::ENTRIES;
+use records::NO_GRANT;
 use records::RECORD_SIZE;
+use records::UNUSED;
 use schedule::Join;
 use schedule::Mode;
-
-// How many entries a record has.
-const ENTRIES: usize = 16;
-
-// The least number that names no downlink, and what stands for no grant.
-const UNUSED: u16 = 254;
-
-const NONE: u8 = 255;
 
 // The three bytes of an entry.
 fn entry_bytes(grant: Option<Join>) -> [u8; 3]
     ensures { λ r. ⌜ r ≡ grant-bytes grant ⌝ }
 {
     match grant {
-        None => [NONE, 0, 0],
+        None => [NO_GRANT, 0, 0],
         Some(join) => {
             if join.down.0 >= UNUSED {
-                return [NONE, 0, 0];
+                return [NO_GRANT, 0, 0];
             }
             let [high, low] = join.units.to_be_bytes();
             [join.down.0 as u8, high, low]

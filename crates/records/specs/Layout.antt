@@ -32,8 +32,8 @@ entry-at r i = record { down = downlink (getD r (4 + 3 * i) 0); units = word r (
 abbrev pub unused : ℕ
 unused = 254
 
-abbrev pub none : ℕ
-none = 255
+abbrev pub no-grant : ℕ
+no-grant = 255
 
 abbrev pub grant-in : Entry → Option Join
 grant-in e = cond (ltb (e .down .0) unused) (Some (record { down = e .down; units = e .units })) None
@@ -49,7 +49,7 @@ mode-of r = record { dwell = dwell-in r; row = row-in r }
 -- what entry i must be, of n lines
 pub record Neat (n i : ℕ) (e : Entry) : Type 0 where
   pub idle : unused ≤ e .down .0 → e .units ≡ 0
-  pub spare : n ≤ i → e .down .0 ≡ none
+  pub spare : n ≤ i → e .down .0 ≡ no-grant
 
 abbrev pub AllNeat : ℕ → List ℕ → Type 0
 AllNeat n r = (i : ℕ) → i < 16 → Neat n i (entry-at r i)

@@ -2,11 +2,14 @@
 mod record;
 mod reservation;
 
+pub use record::ENTRIES;
 pub use record::Entry;
 pub use record::EntryDebug;
 pub use record::EntryPartialEq;
+pub use record::NO_GRANT;
 pub use record::RECORD_SIZE;
 pub use record::Record;
+pub use record::UNUSED;
 pub use record::read_record;
 pub use record::record_count;
 pub use reservation::RESERVATION_SIZE;

@@ -22,12 +22,13 @@ use schedule::keeps_rules;
 pub const RECORD_SIZE: usize = 52;
 
 // How many entries a record has.
-const ENTRIES: usize = 16;
+pub const ENTRIES: usize = 16;
 
-// The least number that names no downlink: 254 is the test load, and 255 is no grant.
-const UNUSED: u16 = 254;
+// The least number that names no downlink: 254 is the test load.
+pub const UNUSED: u16 = 254;
 
-const NONE: u16 = 255;
+// What stands for a downlink where there is no grant.
+pub const NO_GRANT: u8 = 255;
 
 // A record as a part of its file, with its place.
 #[derive(Clone, Copy)]
@@ -175,7 +176,8 @@ fn grants_in(bytes: &[u8; 52]) -> [Option<Join>; 16]
 fn is_neat(lines: usize, i: usize, entry: Entry) -> bool
     ensures { λ r. ⌜ Decides r (Neat lines i entry) ⌝ }
 {
-    (entry.down.0 < UNUSED || entry.units == 0) && (i < lines || entry.down.0 == NONE)
+    (entry.down.0 < UNUSED || entry.units == 0)
+        && (i < lines || entry.down.0 == u16::from(NO_GRANT))
 }
 
 // Whether all entries do.

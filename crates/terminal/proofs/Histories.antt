@@ -4,6 +4,7 @@ use mathlib.Core.Bool.{Bool, true, false, cond}
 use mathlib.Core.List.{List, [], _∷_, _++_}
 use Prim.Native.Nat.{ℕ}
 use lib.Dec.{eqb}
+use Rattle.std.specs.Orderings.{When}
 use Rattle.std.specs.shelf.Lists.{All}
 use Rattle.std.proofs.shelf.Lists.{append-nil, append-assoc}
 use Rattle.std.proofs.shelf.Elements.{all-push}
@@ -113,3 +114,8 @@ last-answered script rs t u r f g h =
     let same : lines-of script ≡ h .lines ++ h .last ∷ [] = heard-lines script rs t h ∙ ap (λ (x : List (List ℕ)). h .lines ++ x) (rest-one (h .last) (f (h .last) (h .held))) in
     subst (λ (ls : List (List ℕ)). Answered ls (rs ++ r ∷ []) (u .desk)) (sym same)
     (answered-more (h .lines) rs (t .desk) (u .desk) (h .last) r (h .answered) (g (h .last) (h .held) .reply))
+
+-- the first of two cases
+pub when-yes : (b : Bool) (P Q : Type 0) → b ≡ true → P → When b P Q
+when-yes true P Q e p = p
+when-yes false P Q e p = absurd (false≢true e)

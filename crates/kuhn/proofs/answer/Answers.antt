@@ -1,10 +1,10 @@
-use mathlib.Core.Path.{_≡_, sym, subst, _∙_}
+use mathlib.Core.Path.{sym, subst, _∙_}
 use mathlib.Core.List.{List}
-use mathlib.Core.Logic.{_⊎_, inl, inr}
+use mathlib.Core.Logic.{inl, inr}
 use Prim.Native.Nat.{ℕ}
 use native.Mathlib.Omega.{arith}
 use Rattle.std.proofs.shelf.Tests.{cases-eq}
-use Rattle.augmenting.specs.Holders.{Busy, Idle}
+use Rattle.augmenting.specs.Holders.{Idle}
 use Rattle.augmenting.proofs.Ends.{edges-after, busy-after, busy-before, matching-right}
 use Rattle.kuhn.specs.Stuck.{Stuck}
 use Rattle.kuhn.proofs.Stuck.{stuck-witness}

@@ -1,4 +1,3 @@
-use mathlib.Core.Path.{_≡_}
 use Prim.Native.Nat.{ℕ, _<_, _≤_}
 use Rattle.augmenting.specs.Holders.{Edges, Busy, Idle}
 use Rattle.kuhn.proofs.answer.Given as given

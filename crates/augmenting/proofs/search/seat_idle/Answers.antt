@@ -1,5 +1,5 @@
 use mathlib.Core.Path.{sym, subst}
-use mathlib.Core.Logic.{_⊎_, inl, inr}
+use mathlib.Core.Logic.{inl, inr}
 use mathlib.Core.List.{List}
 use Prim.Native.Nat.{ℕ}
 use Rattle.std.proofs.shelf.Tests.{cases-bool}

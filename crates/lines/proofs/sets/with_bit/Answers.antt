@@ -1,4 +1,4 @@
-use mathlib.Core.Path.{_≡_, ap, _∙_}
+use mathlib.Core.Path.{ap, _∙_}
 use lib.Bits.{bitOr}
 use Rattle.std.proofs.shelf.Bits.{one-shl}
 use Rattle.lines.specs.Sets.{has}

@@ -1,0 +1,3 @@
+pub mod Batches
+pub mod Struck
+pub mod Lowest

@@ -1,0 +1,5 @@
+pub mod Acting
+pub mod Advances
+pub mod Stepping
+pub mod Planning
+pub mod Written
