@@ -51,6 +51,7 @@ pub record Served (n : ℕ) (m : Matrix) (file : List ℕ) (long : ℕ) : Type 0
   pub sum : long ≡ span (modes-in file)
   pub shop : OpenShop n long (unfolded n (modes-in file)) m
 
+-- and it is told whether that length is the busiest line
 pub record Accepted (n : ℕ) (m : Matrix) (file : List ℕ) (c : Checked) : Type 0 where
   pub served : Served n m file (c .length)
   pub shortest : Decides (c .shortest) (c .length ≡ busiest n m)

@@ -45,7 +45,7 @@ fn add_mode(lines: usize, mode: &Mode, totals: &mut [[u32; 16]; 16])
 }
 
 // The tally of all records, or the place of the first that is no mode of so many lines.
-pub fn add_up(lines: usize, file: &[u8]) -> Result<Tally, usize>
+pub(super) fn add_up(lines: usize, file: &[u8]) -> Result<Tally, usize>
     requires size { ⌜ lines ≤ 16 ⌝ }
     requires sized { ⌜ Sized (now file) ⌝ }
     ensures { λ r. ⌜ Cases r (λ t. Tallied lines (now (file .entry)) (count (now (file .entry))) (t .length) (cells (t .totals))) (λ k. First-improper lines (now (file .entry)) k) ⌝ }

@@ -15,7 +15,7 @@ use schedule::Join;
 use switch::Outcome;
 
 // The outcome of each grant, as the carrier says.
-pub fn outcomes<C: Carrier>(
+pub(super) fn outcomes<C: Carrier>(
     carrier: &C,
     start: Start,
     row: &[Option<Join>; 16],
@@ -37,7 +37,7 @@ pub fn outcomes<C: Carrier>(
 }
 
 // Adds the outcomes to what was carried.
-pub fn add_outcomes(carried: &mut [[u64; 16]; 16], all: &[Option<Outcome>; 16])
+pub(super) fn add_outcomes(carried: &mut [[u64; 16]; 16], all: &[Option<Outcome>; 16])
     requires small { ⌜ ((i j : ℕ) → cells (now carried) i j < 2 ^ 63) ⌝ }
     requires downs { ⌜ ((i : ℕ) → down-out (getD (now all) i None) < 16) ⌝ }
     requires rows { ⌜ ((i : ℕ) → i < 16 → length (getD (now carried) i []) ≡ 16) ⌝ }

@@ -28,7 +28,7 @@ fn is_taken(row: &[Option<Join>; 16], down: Downlink) -> bool
 }
 
 // Why an open mode does not take a grant, if it does not.
-pub fn why_not(
+pub(super) fn why_not(
     lines: usize,
     mode: &Mode,
     up: Uplink,

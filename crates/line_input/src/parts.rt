@@ -8,7 +8,7 @@ ghost use Rattle.script.specs.Requests.{request-of};
 use super::buffer::KEPT;
 
 // One byte more after the first `len`, where there is room: how many there are then.
-pub fn add(bytes: &mut [u8; 81], len: usize, byte: u8) -> usize
+pub(super) fn add(bytes: &mut [u8; 81], len: usize, byte: u8) -> usize
     requires { ⌜ len ≤ most ⌝ }
     ensures few { λ r. ⌜ r ≤ most ⌝ }
     ensures kept { λ r. ⌜ ((line : List ℕ) → take len (now (bytes .entry)) ≡ take most line → take r (now (bytes .exit)) ≡ take most (line ++ byte ∷ [])) ⌝ }
@@ -21,7 +21,7 @@ pub fn add(bytes: &mut [u8; 81], len: usize, byte: u8) -> usize
 }
 
 // The first `len` bytes. What they ask for is what the whole line asks for.
-pub fn front(bytes: &[u8; 81], len: usize) -> &[u8]
+pub(super) fn front(bytes: &[u8; 81], len: usize) -> &[u8]
     requires { ⌜ len ≤ most ⌝ }
     ensures kept { λ r. ⌜ now r ≡ take len (now (bytes .entry)) ⌝ }
     ensures same { λ r. ⌜ ((line : List ℕ) → take len (now (bytes .entry)) ≡ take most line → request-of (now r) ≡ request-of line) ⌝ }
@@ -30,7 +30,7 @@ pub fn front(bytes: &[u8; 81], len: usize) -> &[u8]
 }
 
 // Whether no byte of the line has come.
-pub fn is_blank(bytes: &[u8; 81], len: usize) -> bool
+pub(super) fn is_blank(bytes: &[u8; 81], len: usize) -> bool
     requires { ⌜ len ≤ most ⌝ }
     ensures { λ r. ⌜ ((line : List ℕ) → take len (now (bytes .entry)) ≡ take most line → r ≡ is-empty line) ⌝ }
 {

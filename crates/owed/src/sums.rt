@@ -6,7 +6,7 @@ ghost use Rattle.lines.specs.Matrix.{cells, up-sum, down-sum, busiest};
 ghost use Rattle.owed.specs.Limits.{limit};
 
 // The units of uplink i.
-pub fn up_sum(n: usize, rows: &[[u32; 16]; 16], i: usize) -> u32
+pub(super) fn up_sum(n: usize, rows: &[[u32; 16]; 16], i: usize) -> u32
     requires size { ⌜ n ≤ 16 ⌝ ∗ ⌜ i < n ⌝ }
     requires small { ⌜ up-sum n (cells (now rows)) i ≤ limit ⌝ }
     ensures { λ r. ⌜ r ≡ up-sum n (cells (now (rows .entry))) i ⌝ }
@@ -19,7 +19,7 @@ pub fn up_sum(n: usize, rows: &[[u32; 16]; 16], i: usize) -> u32
 }
 
 // The units of downlink j.
-pub fn down_sum(n: usize, rows: &[[u32; 16]; 16], j: usize) -> u32
+pub(super) fn down_sum(n: usize, rows: &[[u32; 16]; 16], j: usize) -> u32
     requires size { ⌜ n ≤ 16 ⌝ ∗ ⌜ j < n ⌝ }
     requires small { ⌜ down-sum n (cells (now rows)) j ≤ limit ⌝ }
     ensures { λ r. ⌜ r ≡ down-sum n (cells (now (rows .entry))) j ⌝ }
@@ -32,7 +32,7 @@ pub fn down_sum(n: usize, rows: &[[u32; 16]; 16], j: usize) -> u32
 }
 
 // The largest line sum.
-pub fn busiest_line(n: usize, rows: &[[u32; 16]; 16]) -> u32
+pub(super) fn busiest_line(n: usize, rows: &[[u32; 16]; 16]) -> u32
     requires size { ⌜ n ≤ 16 ⌝ }
     requires small { ⌜ busiest n (cells (now rows)) ≤ limit ⌝ }
     ensures { λ r. ⌜ r ≡ busiest n (cells (now (rows .entry))) ⌝ }
@@ -49,7 +49,7 @@ pub fn busiest_line(n: usize, rows: &[[u32; 16]; 16]) -> u32
 }
 
 // Puts the units u at place j of a row.
-pub fn put(row: &mut [u32; 16], j: usize, u: u32)
+pub(super) fn put(row: &mut [u32; 16], j: usize, u: u32)
     requires { ⌜ j < 16 ⌝ }
     ensures here { λ _. ⌜ getD (now (row .exit)) j 0 ≡ u ⌝ }
     ensures others { λ _. ⌜ ((k : ℕ) → (k ≡ j → ⊥) → getD (now (row .exit)) k 0 ≡ getD (now (row .entry)) k 0) ⌝ }
@@ -58,7 +58,7 @@ pub fn put(row: &mut [u32; 16], j: usize, u: u32)
 }
 
 // Rows of zeros.
-pub fn no_units() -> [[u32; 16]; 16]
+pub(super) fn no_units() -> [[u32; 16]; 16]
     ensures { λ r. ⌜ ((a b : ℕ) → cells r a b ≡ 0) ⌝ }
 {
     [[0; 16]; 16]

@@ -11,6 +11,8 @@ pub fn worked_plans<E: Engine>()
 mod tests {
     use kuhn::Kuhn;
     use kuhn::KuhnEngine;
+    use layered::Layered;
+    use layered::LayeredEngine;
     use lines::Downlink;
     use lines::Uplink;
     use matching::Engine;
@@ -89,7 +91,8 @@ mod tests {
     }
 
     fn check_engines(heap: Global, owed: &Owed, most: usize) -> Result<(), Fail> {
-        check_with(heap, &Kuhn, owed, most)
+        check_with(heap, &Kuhn, owed, most)?;
+        check_with(heap, &Layered, owed, most)
     }
 
     #[test]

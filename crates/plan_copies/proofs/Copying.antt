@@ -14,11 +14,11 @@ use Rattle.planning.proofs.Plans.{plan-sound}
 use Rattle.plan_files.specs.declared.decline.FileDecline.{FileDecline}
 use Rattle.plan_files.specs.declared.decline.FileDecline.the-variants.{Write, Read}
 use Rattle.plan_files.specs.declared.read.PlanFile.{PlanFile}
-use Rattle.plan_files.specs.Encoding.{Done, Undone, Round-trip, Again, Undone-for}
+use Rattle.plan_files.specs.Back.{Done, Undone, Round-trip, Again, Not-back}
 use Rattle.plan_copies.specs.Copies.{Copied, Uncopied}
 
 module _ (plan : Plan) (room : ℕ) where
-  join : (r : Result PlanFile FileDecline) → Cases r (Done (plan-lines plan) (plan-modes plan) room) (Undone (plan-lines plan) (plan-modes plan) room) → Cases r (Again (plan-lines plan) (plan-modes plan)) Undone-for → Cases r (Copied plan room) (Uncopied plan room)
+  join : (r : Result PlanFile FileDecline) → Cases r (Done (plan-lines plan) (plan-modes plan) room) (Undone (plan-lines plan) (plan-modes plan) room) → Cases r (Again (plan-lines plan) (plan-modes plan)) Not-back → Cases r (Copied plan room) (Uncopied plan room)
   join (Ok p) done again = record { fits = done .fits; lines = again .lines (plan .«some_mode»); modes = again .modes }
   join (Err (Write d)) undone _ = undone
   join (Err (Read d)) undone unread = (undone .0, unread)
@@ -29,4 +29,4 @@ module _ (plan : Plan) (room : ℕ) where
       let again = back (omega (arith, plan .«some_line»), omega (arith, plan .«few_lines»)) sound in
       join r
       (subst (λ (k : ℕ). Cases r (Done k (plan-modes plan) room) (Undone k (plan-modes plan) room)) same-lines (subst (λ (xs : List Mode). Cases r (Done n xs room) (Undone n xs room)) same-modes told))
-      (subst (λ (k : ℕ). Cases r (Again k (plan-modes plan)) Undone-for) same-lines (subst (λ (xs : List Mode). Cases r (Again n xs) Undone-for) same-modes again))
+      (subst (λ (k : ℕ). Cases r (Again k (plan-modes plan)) Not-back) same-lines (subst (λ (xs : List Mode). Cases r (Again n xs) Not-back) same-modes again))

@@ -10,7 +10,7 @@ use Rattle.plan_files.specs.declared.decline.FileDecline.{FileDecline}
 use Rattle.plan_files.specs.declared.decline.FileDecline.the-variants.{Write, Read}
 use Rattle.plan_files.specs.declared.read.PlanFile.{PlanFile}
 use Rattle.plan_files.specs.Declines.{write-decline}
-use Rattle.plan_files.specs.Encoding.{Unread}
+use Rattle.plan_files.specs.Back.{Unread}
 
 -- the buffer is long enough, and what was read is the plan
 pub record Copied (plan : Plan) (room : ℕ) (p : PlanFile) : Type 0 where

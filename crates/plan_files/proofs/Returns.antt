@@ -15,7 +15,7 @@ use Rattle.records.proofs.Files.{length-modes}
 use Rattle.plan_files.specs.declared.decline.ReadDecline.{ReadDecline}
 use Rattle.plan_files.specs.declared.decline.ReadDecline.the-variants.{Size, Improper, NoMemory}
 use Rattle.plan_files.specs.declared.read.PlanFile.{PlanFile}
-use Rattle.plan_files.specs.Encoding.{encoded, Comes-back, Again, Unread, Same-back}
+use Rattle.plan_files.specs.Back.{Again, Unread}
 use Rattle.plan_files.specs.Reading.{Lines, Fits, lines-said, Says, Tells, Untold}
 
 module _ (n : ℕ) (ms : List Mode) (file : List ℕ) (lines : Lines n) (says : Says n ms file) where

@@ -1,3 +1,4 @@
 pub mod Declines
 pub mod Reading
 pub mod Encoding
+pub mod Back

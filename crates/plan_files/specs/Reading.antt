@@ -22,15 +22,15 @@ Lines n = (1 ≤ n) × (n ≤ 16)
 abbrev pub lines-said : List ℕ → ℕ
 lines-said file = lines-in (part file 0)
 
--- a mode of n lines, where there are such
+-- the record of a mode of n lines, from 1 to 16
 abbrev pub Fits : ℕ → List ℕ → Type 0
 Fits n r = Lines n × Proper n r
 
--- so are the first k records
+-- the first k records are such
 abbrev pub AllFit : ℕ → ℕ → List ℕ → Type 0
 AllFit n k file = (h : ℕ) → h < k → Fits n (part file h)
 
--- record k is the first that is not
+-- record k is the first that is none
 pub record First-unfit (n : ℕ) (file : List ℕ) (k : ℕ) : Type 0 where
   pub there : k < count file
   pub unfit : Fits n (part file k) → ⊥

@@ -6,7 +6,7 @@ ghost use Rattle.std.specs.Options.{Cases as BySome};
 ghost use Rattle.script.specs.Words.{split, more};
 
 // The piece of `s` before its first space, and what follows that space.
-pub fn split_word(s: &[u8]) -> (&[u8], Option<&[u8]>)
+pub(super) fn split_word(s: &[u8]) -> (&[u8], Option<&[u8]>)
     ensures { λ r. ⌜ split (now (s .entry)) ≡ now (r .0) ∷ more (r .1) ⌝ }
 {
     for (i, b) in s.iter().enumerate() {
@@ -28,7 +28,7 @@ fn take_word(rest: Option<&[u8]>) -> Option<(&[u8], Option<&[u8]>)>
 }
 
 // No word.
-pub fn no_word(rest: Option<&[u8]>) -> Option<()>
+pub(super) fn no_word(rest: Option<&[u8]>) -> Option<()>
     ensures { λ r. ⌜ BySome r (length (more (rest .entry)) ≡ 0 → ⊥) (λ _. more (rest .entry) ≡ []) ⌝ }
 {
     match take_word(rest) {
@@ -38,7 +38,7 @@ pub fn no_word(rest: Option<&[u8]>) -> Option<()>
 }
 
 // One word and nothing after it.
-pub fn one_word<'a>(rest: Option<&'a [u8]>) -> Option<&'a [u8]>
+pub(super) fn one_word<'a>(rest: Option<&'a [u8]>) -> Option<&'a [u8]>
     ensures { λ r. ⌜ BySome r (length (more (rest .entry)) ≡ 1 → ⊥) (λ t. more (rest .entry) ≡ now t ∷ []) ⌝ }
 {
     let (a, rest) = take_word(rest)?;
@@ -47,7 +47,7 @@ pub fn one_word<'a>(rest: Option<&'a [u8]>) -> Option<&'a [u8]>
 }
 
 // Two words and nothing after them.
-pub fn two_words<'a>(rest: Option<&'a [u8]>) -> Option<(&'a [u8], &'a [u8])>
+pub(super) fn two_words<'a>(rest: Option<&'a [u8]>) -> Option<(&'a [u8], &'a [u8])>
     ensures { λ r. ⌜ BySome r (length (more (rest .entry)) ≡ 2 → ⊥) (λ t. more (rest .entry) ≡ now (t .0) ∷ now (t .1) ∷ []) ⌝ }
 {
     let (a, rest) = take_word(rest)?;
@@ -56,7 +56,7 @@ pub fn two_words<'a>(rest: Option<&'a [u8]>) -> Option<(&'a [u8], &'a [u8])>
 }
 
 // Three words and nothing after them.
-pub fn three_words<'a>(rest: Option<&'a [u8]>) -> Option<(&'a [u8], &'a [u8], &'a [u8])>
+pub(super) fn three_words<'a>(rest: Option<&'a [u8]>) -> Option<(&'a [u8], &'a [u8], &'a [u8])>
     ensures { λ r. ⌜ BySome r (length (more (rest .entry)) ≡ 3 → ⊥) (λ t. more (rest .entry) ≡ now (t .0) ∷ now (t .1) ∷ now (t .2) ∷ []) ⌝ }
 {
     let (a, rest) = take_word(rest)?;
@@ -65,7 +65,9 @@ pub fn three_words<'a>(rest: Option<&'a [u8]>) -> Option<(&'a [u8], &'a [u8], &'
 }
 
 // Four words and nothing after them.
-pub fn four_words<'a>(rest: Option<&'a [u8]>) -> Option<(&'a [u8], &'a [u8], &'a [u8], &'a [u8])>
+pub(super) fn four_words<'a>(
+    rest: Option<&'a [u8]>,
+) -> Option<(&'a [u8], &'a [u8], &'a [u8], &'a [u8])>
     ensures { λ r. ⌜ BySome r (length (more (rest .entry)) ≡ 4 → ⊥) (λ t. more (rest .entry) ≡ now (t .0) ∷ now (t .1) ∷ now (t .2) ∷ now (t .3) ∷ []) ⌝ }
 {
     let (a, rest) = take_word(rest)?;
@@ -74,7 +76,7 @@ pub fn four_words<'a>(rest: Option<&'a [u8]>) -> Option<(&'a [u8], &'a [u8], &'a
 }
 
 // The character that is all of `head`.
-pub fn only_letter(head: &[u8]) -> Option<char>
+pub(super) fn only_letter(head: &[u8]) -> Option<char>
     ensures { λ r. ⌜ BySome r (length (now (head .entry)) ≡ 1 → ⊥) (λ c. now (head .entry) ≡ c ∷ []) ⌝ }
 {
     if head.len() == 1 {

@@ -1,30 +1,23 @@
--- The records of modes as files hold them are those of the law. Assumes nothing.
+-- The modes left, written as records. Assumes nothing.
 use mathlib.Core.Path.{_≡_, refl, sym, ap, subst, _∙_}
 use mathlib.Core.Bool.{Bool, true, false, cond}
 use mathlib.Core.Logic.{inl, inr}
 use mathlib.Core.List.{List, [], _∷_, _++_}
-use Prim.Native.Nat.{ℕ, zero, suc, _+_, _*_, _/_, _%_, _≤_, _<_, min}
+use Prim.Native.Nat.{ℕ, _*_, _≤_, _<_}
 use native.Mathlib.Omega.{arith}
 use lib.Dec.{eqb, ltb}
-use lib.ListN.{length, getD, take, drop, length-drop}
-use lib.Seq.{take-suc}
+use lib.ListN.{length, drop}
 use Rattle.std.specs.declared.option.Option.{Option}
 use Rattle.std.specs.declared.option.Option.the-variants.{Some, None}
 use Rattle.std.specs.declared.result.Result.the-variants.{Ok, Err}
-use Rattle.std.specs.shelf.Lists.{joined}
-use Rattle.std.proofs.shelf.Tests.{cases-lt, lt-ltb, le-ltb, true≢false}
-use Rattle.std.proofs.shelf.Lists.{take-all, take-more, getD-drop, joined-more}
+use Rattle.std.proofs.shelf.Tests.{cases-lt, lt-ltb, le-ltb}
 use Rattle.lines.specs.Verdicts.{told, or-same}
-use Rattle.schedule.specs.declared.Join.{Join}
 use Rattle.schedule.specs.declared.Mode.{Mode}
-use Rattle.schedule.specs.Modes.{Sound, grant-of}
 use Rattle.planning.specs.declared.plan.Plan.{Plan}
 use Rattle.planning.specs.Plans.{plan-lines, plan-modes}
-use Rattle.planning.specs.Kept.{no-mode, mode-at}
-use Rattle.planning.proofs.Keeping.{mode-kept}
 use Rattle.plan_files.specs.declared.decline.WriteDecline.{WriteDecline}
 use Rattle.plan_files.specs.Declines.{write-decline}
-use Rattle.plan_files.specs.Encoding.{grant-bytes, encode, encoded as filed}
+use Rattle.plan_files.specs.Encoding.{encoded}
 use Rattle.plan_files.specs.declared.decline.WriteDecline.the-variants.{ShortBuffer as Short}
 use Rattle.owed.specs.Calls.{lines-of}
 use Rattle.switch.specs.Meaning.{Meaning}
@@ -32,7 +25,6 @@ use Rattle.law.specs.declared.call.Call.the-variants.{Write}
 use Rattle.law.specs.declared.answer.Answer.the-variants.{Wrote, Declined}
 use Rattle.law.specs.declared.decline.SessionDecline.the-variants.{NoPlan, ShortBuffer}
 use Rattle.law.specs.States.{Plan as Standing, idle, planned, stands}
-use Rattle.law.specs.Written.{entry-bytes, entries, encoded}
 use Rattle.law.specs.Calls.{Maker, Does}
 use Rattle.law.proofs.Said.{none-told, value-told, some-told, declined-so}
 use Rattle.law.proofs.Answering.{short-buffer-so, wrote-so}
@@ -43,48 +35,6 @@ use Rattle.session.specs.Standing.{standing-on}
 use Rattle.session.specs.Sessions.{state-of}
 use Rattle.session.proofs.Acting.{no-plan}
 use Rattle.session.proofs.Advances.{Good, good-of}
-
--- an entry that names a line is written as it is
-entry-same : (n : ℕ) (o : Option Join) → n ≤ 16 → ((x : Join) → o ≡ Some x → x .down .0 < n) → grant-bytes o ≡ entry-bytes o
-entry-same n None few inside = refl
-entry-same n (Some x) few inside =
-    let h : x .down .0 < 254 = omega (arith, inside x refl) in
-    ap (λ b. cond b (x .down .0 ∷ x .units / 256 ∷ x .units % 256 ∷ []) (255 ∷ 0 ∷ 0 ∷ [])) (lt-ltb (x .down .0) 254 h)
-
--- the first i entries
-entries-same : (n : ℕ) (m : Mode) → n ≤ 16 → Sound n m → (i : ℕ) → i ≤ length (m .row) → joined grant-bytes (take i (m .row)) ≡ entries m i
-entries-same n m few sound zero h = refl
-entries-same n m few sound (suc i) h =
-    ap (joined grant-bytes) (take-suc (m .row) i None (omega arith))
-    ∙ sym (joined-more grant-bytes [] (take i (m .row)) (grant-of m i))
-    ∙ ap (λ (l : List ℕ). l ++ grant-bytes (grant-of m i)) (entries-same n m few sound i (omega arith))
-    ∙ ap (λ (l : List ℕ). entries m i ++ l) (entry-same n (grant-of m i) few (λ x e. sound .downlinks i x e))
-
--- modes of n lines, each with sixteen places
-abbrev pub Whole : ℕ → List Mode → Type 0
-Whole n [] = Unit {0}
-Whole n (m ∷ ms) = (Sound n m × (length (m .row) ≡ 16)) × Whole n ms
-
-pub whole-from : (n : ℕ) (ms : List Mode) → ((k : ℕ) → k < length ms → Sound n (mode-at ms k) × (length (mode-at ms k .row) ≡ 16)) → Whole n ms
-whole-from n [] h = tt
-whole-from n (m ∷ ms) h = (h 0 (omega arith), whole-from n ms (λ k l. h (suc k) (omega arith)))
-
-pub written-same : (n : ℕ) (ms : List Mode) → n ≤ 16 → Whole n ms → filed n ms ≡ encoded n ms
-written-same n [] few w = refl
-written-same n (m ∷ ms) few w =
-    let row : joined grant-bytes (m .row) ≡ entries m 16 =
-    ap (joined grant-bytes) (sym (take-all 16 (m .row) (omega (arith, w .0 .1)))) ∙ entries-same n m few (w .0 .0) 16 (omega (arith, w .0 .1)) in
-    let lines : min n 255 ≡ n = omega arith in
-    ap (λ (k : ℕ). ((m .dwell / 256 ∷ m .dwell % 256 ∷ k ∷ 0 ∷ []) ++ joined grant-bytes (m .row)) ++ filed n ms) lines
-    ∙ ap (λ (l : List ℕ). ((m .dwell / 256 ∷ m .dwell % 256 ∷ n ∷ 0 ∷ []) ++ l) ++ filed n ms) row
-    ∙ ap (λ (l : List ℕ). ((m .dwell / 256 ∷ m .dwell % 256 ∷ n ∷ 0 ∷ []) ++ entries m 16) ++ l) (written-same n ms few (w .1))
-
--- the modes left of a plan
-pub plan-whole : (p : Plan) (place : ℕ) → Whole (plan-lines p) (drop place (plan-modes p))
-plan-whole p place = whole-from (plan-lines p) (drop place (plan-modes p)) (λ k l.
-    let h : place + k < length (plan-modes p) = omega (arith, length-drop place (plan-modes p)) in
-    subst (λ (m : Mode). Sound (plan-lines p) m × (length (m .row) ≡ 16)) (sym (getD-drop place (plan-modes p) k no-mode))
-    (mode-kept (plan-lines p) (plan-modes p) (p .dwells) (p .fits) (p .units) (p .single) (place + k) h, p .rows (place + k) h))
 
 fits : (many room : ℕ) → write-decline many room ≡ None → 52 * many ≤ room
 fits many room h =
@@ -110,7 +60,7 @@ none-stands n l st x e h = ap (λ (y : State). stands (standing-on n l y)) e ∙
 -- the modes left were given to be written
 module _ {S E : Type 0} (meaning : S → Meaning) (s : Session S E) (p : Plan) (place left : ℕ) (is : s .state ≡ Planned p place left) (agrees : eqb (meaning (s .«switch») .lines) (lines-of (s .owed)) ≡ true)
     (n : ℕ) (n-is : n ≡ plan-lines p) (given : List Mode) (given-is : given ≡ drop place (plan-modes p)) (before after : List ℕ)
-    (out : after ≡ or-same (write-decline (length given) (length before)) (filed n given ++ drop (52 * length given) before) before) where
+    (out : after ≡ or-same (write-decline (length given) (length before)) (encoded n given ++ drop (52 * length given) before) before) where
   abbrev ms : List Mode
   ms = drop place (plan-modes p)
 
@@ -120,10 +70,8 @@ module _ {S E : Type 0} (meaning : S → Meaning) (s : Session S E) (p : Plan) (
   lines : plan-lines p ≡ lines-of (s .owed)
   lines = good-of s (Planned p place left) is .lines
 
-  bytes : filed n given ≡ encoded (lines-of (s .owed)) ms
-  bytes =
-      ap (λ (k : ℕ). filed k given) n-is ∙ ap (filed (plan-lines p)) given-is
-      ∙ written-same (plan-lines p) ms (p .«few_lines») (plan-whole p place) ∙ ap (λ (k : ℕ). encoded k ms) lines
+  bytes : encoded n given ≡ encoded (lines-of (s .owed)) ms
+  bytes = ap (λ (k : ℕ). encoded k given) (n-is ∙ lines) ∙ ap (encoded (lines-of (s .owed))) given-is
 
   pub writes : {M : Maker} (used : ℕ) → Ok used ≡ told (write-decline (length given) (length before)) (52 * length given) → Does M Write (Wrote used) [] before after (state-of meaning s) (state-of meaning s)
   writes used e =
@@ -133,7 +81,7 @@ module _ {S E : Type 0} (meaning : S → Meaning) (s : Session S E) (p : Plan) (
       wrote-so before after (state-of meaning s) (state-of meaning s) place ms stood refl used
       (omega (arith, fits (length given) (length before) free, same))
       (omega (arith, count, same))
-      (out ∙ ap (λ (o : Option WriteDecline). or-same o (filed n given ++ drop (52 * length given) before) before) free
+      (out ∙ ap (λ (o : Option WriteDecline). or-same o (encoded n given ++ drop (52 * length given) before) before) free
       ∙ ap (λ (l : List ℕ). l ++ drop (52 * length given) before) bytes ∙ ap (λ (k : ℕ). encoded (lines-of (s .owed)) ms ++ drop k before) (sym count))
 
   pub writes-not : {M : Maker} (d : WriteDecline) → Err d ≡ told (write-decline (length given) (length before)) (52 * length given) → Does M Write (Declined ShortBuffer) [] before after (state-of meaning s) (state-of meaning s)
@@ -142,4 +90,4 @@ module _ {S E : Type 0} (meaning : S → Meaning) (s : Session S E) (p : Plan) (
       let same : length given ≡ length ms = ap length given-is in
       short-buffer-so before after (state-of meaning s) (state-of meaning s) place ms stood refl
       (omega (arith, too-many (length given) (length before) d h, same))
-      (out ∙ ap (λ (o : Option WriteDecline). or-same o (filed n given ++ drop (52 * length given) before) before) h)
+      (out ∙ ap (λ (o : Option WriteDecline). or-same o (encoded n given ++ drop (52 * length given) before) before) h)

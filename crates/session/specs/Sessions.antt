@@ -3,7 +3,9 @@ use mathlib.Core.Path.{_≡_}
 use mathlib.Core.List.{List, [], _∷_}
 use Prim.Native.Nat.{ℕ, _≤_, _<_}
 use Rattle.std.specs.declared.option.Option.{Option}
-use Rattle.std.specs.declared.option.Option.the-variants.{Some, None}
+use Rattle.std.specs.declared.option.Option.the-variants.{Some}
+use Rattle.std.specs.declared.result.Result.{Result}
+use Rattle.std.specs.declared.result.Result.the-variants.{Ok, Err}
 use Rattle.lines.specs.Matrix.{Matrix, busiest}
 use Rattle.schedule.specs.declared.Mode.{Mode}
 use Rattle.schedule.specs.Modes.{longest-dwell}
@@ -13,7 +15,8 @@ use Rattle.matching.specs.Answers.{May}
 use Rattle.planning.specs.Making.{MadeBy}
 use Rattle.law.specs.declared.call.Call.{Call}
 use Rattle.law.specs.declared.answer.Answer.{Answer}
-use Rattle.law.specs.declared.answer.Answer.the-variants.{Stepped}
+use Rattle.law.specs.declared.answer.Cause.{Cause}
+use Rattle.law.specs.declared.answer.Answer.the-variants.{Accepted, Planned, Stepped, Ran, Units, Wrote, Declined}
 use Rattle.law.specs.declared.decline.SessionDecline.{SessionDecline}
 use Rattle.law.specs.States.{State}
 use Rattle.law.specs.Runs.{ModeRun, Advanced, shortfall}
@@ -58,3 +61,26 @@ pub record StepsTo (x : Step) (s t : State) : Type 0 where
 pub record Stays (d : SessionDecline) (s t : State) : Type 0 where
   pub why : next-decline (s .plan) (s .«switch») ≡ Some d
   pub state : t ≡ s
+
+-- what is answered for a result
+abbrev pub answer-of : {A : Type 0} → (A → Answer) → Result A SessionDecline → Answer
+answer-of f (Ok x) = f x
+answer-of f (Err d) = Declined d
+
+abbrev pub accepted : Result Unit SessionDecline → Answer
+accepted r = answer-of (λ x. Accepted) r
+
+abbrev pub planned-of : Result (ℕ × ℕ) SessionDecline → Answer
+planned-of r = answer-of (λ x. Planned (x .0) (x .1)) r
+
+abbrev pub stepped-of : Result Step SessionDecline → Answer
+stepped-of r = answer-of (λ x. Stepped (x .number) (x .dwell) (x .short)) r
+
+abbrev pub ran-of : Result (ℕ × Cause) SessionDecline → Answer
+ran-of r = answer-of (λ x. Ran (x .0) (x .1)) r
+
+abbrev pub units-told : Result ℕ SessionDecline → Answer
+units-told r = answer-of Units r
+
+abbrev pub wrote-of : Result ℕ SessionDecline → Answer
+wrote-of r = answer-of Wrote r

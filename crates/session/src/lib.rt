@@ -1,5 +1,6 @@
 // A session over a switch and an engine: bookings, plans, and the modes that run.
 mod bookings;
+mod calls;
 mod running;
 mod state;
 mod writing;

@@ -3,19 +3,23 @@ ghost use mathlib.Core.Path.{_≡_};
 ghost use Prim.Native.Nat.{ℕ, _+_, _-_, _<_, _≤_};
 ghost use Rattle.std.specs.Results.{Cases};
 ghost use Rattle.session.specs.Standing.{place-of, count-of, length-of, onward-of};
+ghost use Rattle.schedule.specs.Modes.{Sound};
+ghost use Rattle.steps.specs.WholeMode.{Runs};
 ghost use Rattle.law.specs.declared.call.Call.the-variants.{Step as ToStep, Run as ToRun};
 ghost use Rattle.law.specs.States.{stands as standing-plan};
-ghost use Rattle.session.specs.Sessions.{state-of, PlannedBy, Acts, StepsTo, Stays};
+ghost use Rattle.session.specs.Sessions.{state-of, PlannedBy, Acts, StepsTo, Stays, stepped-of, ran-of};
 use super::state::Session;
 use super::state::State;
 use booking::fell_short;
 use booking::settle;
-use law::Answer;
+use driver::DriverDecline;
 use law::Cause;
 use law::SessionDecline;
 use law::Shortfall;
 use matching::Engine;
+use schedule::Mode;
 use steps::run_mode;
+use switch::Outcome;
 use switch::Switch;
 
 // What is told of a mode that was run.
@@ -44,6 +48,13 @@ fn go_on(state: &mut State, dwell: u16)
     }
 }
 
+// Runs a mode of a plan on a switch: it is opened, granted and run.
+fn run_planned<S: Switch>(s: &mut S, mode: &Mode) -> Result<[Option<Outcome>; 16], DriverDecline>
+    ensures { λ r. ⌜ (Sound (meaning (now (s .entry)) .lines) (now (mode .entry)) → Runs (now (mode .entry)) (meaning (now (s .entry))) (meaning (now (s .exit))) r) ⌝ }
+{
+    run_mode(s, mode)
+}
+
 impl<S: Switch, E: Engine> Session<S, E> {
     // Whether a plan stands.
     fn stands(&self) -> bool
@@ -64,7 +75,7 @@ impl<S: Switch, E: Engine> Session<S, E> {
             State::Idle => return Err(SessionDecline::NoPlan),
             State::Planned { plan, place, .. } => (plan.modes()[*place], *place),
         };
-        match run_mode(&mut self.switch, &mode) {
+        match run_planned(&mut self.switch, &mode) {
             Err(decline) => Err(SessionDecline::Mode { number, decline }),
             Ok(outcomes) => {
                 settle(&mut self.owed, &outcomes);
@@ -78,29 +89,24 @@ impl<S: Switch, E: Engine> Session<S, E> {
         }
     }
 
-    // Runs the next mode, and takes what it carried off the owed units.
-    pub fn step(&mut self) -> Answer
-        ensures { λ r. ⌜ Acts (PlannedBy (E·Engine .may)) ToStep r (state-of meaning (now (self .entry))) (state-of meaning (now (self .exit))) ⌝ }
+    pub(super) fn next_step(&mut self) -> Result<Step, SessionDecline>
+        ensures { λ r. ⌜ Acts (PlannedBy (E·Engine .may)) ToStep (stepped-of r) (state-of meaning (now (self .entry))) (state-of meaning (now (self .exit))) ⌝ }
     {
         match self.advance() {
-            Ok(x) => Answer::Stepped {
-                number: x.number,
-                dwell: x.dwell,
-                short: x.short,
-            },
-            Err(d) => Answer::Declined(d),
+            Ok(x) => Ok(x),
+            Err(d) => Err(d),
         }
     }
 
-    // Steps up to so many modes.
-    pub fn run(&mut self, budget: u16) -> Answer
-        ensures { λ r. ⌜ Acts (PlannedBy (E·Engine .may)) (ToRun budget) r (state-of meaning (now (self .entry))) (state-of meaning (now (self .exit))) ⌝ }
+    // Steps up to so many modes, and answers how many ran and why it stopped.
+    pub(super) fn run_modes(&mut self, budget: u16) -> Result<(u16, Cause), SessionDecline>
+        ensures { λ r. ⌜ Acts (PlannedBy (E·Engine .may)) (ToRun budget) (ran-of r) (state-of meaning (now (self .entry))) (state-of meaning (now (self .exit))) ⌝ }
     {
         if !self.stands() {
-            return Answer::Declined(SessionDecline::NoPlan);
+            return Err(SessionDecline::NoPlan);
         }
         if budget == 0 {
-            return Answer::Declined(SessionDecline::NoBudget);
+            return Err(SessionDecline::NoBudget);
         }
         let mut count: u16 = 0;
         while count < budget {
@@ -108,31 +114,19 @@ impl<S: Switch, E: Engine> Session<S, E> {
                 Ok(x) => x,
                 Err(d) => {
                     if count == 0 {
-                        return Answer::Declined(d);
+                        return Err(d);
                     }
-                    return Answer::Ran {
-                        count,
-                        cause: Cause::Stop,
-                    };
+                    return Ok((count, Cause::Stop));
                 }
             };
             count += 1;
             if !self.stands() {
-                return Answer::Ran {
-                    count,
-                    cause: Cause::End,
-                };
+                return Ok((count, Cause::End));
             }
             if let Some(_) = x.short {
-                return Answer::Ran {
-                    count,
-                    cause: Cause::Short,
-                };
+                return Ok((count, Cause::Short));
             }
         }
-        Answer::Ran {
-            count,
-            cause: Cause::Budget,
-        }
+        Ok((count, Cause::Budget))
     }
 }
