@@ -26,7 +26,7 @@ mod tests {
     // All that a script is answered.
     fn transcript(heap: Global, script: &[u8]) -> Result<String, AllocError> {
         let mut out = String::new(heap);
-        let mut terminal = Terminal::new();
+        let mut terminal = Terminal::new(heap);
         for byte in script {
             if let Some(reply) = terminal.take(*byte) {
                 write_line(&mut out, heap, &reply)?;
@@ -141,7 +141,7 @@ mod tests {
     #[test]
     fn a_very_long_line(rt: LibcRuntime) -> Result<(), Fail> {
         let heap = rt.alloc();
-        let mut terminal = Terminal::new();
+        let mut terminal = Terminal::new(heap);
         for byte in b"n 3\np 0 1 7 " {
             let _ = terminal.take(*byte);
         }

@@ -7,6 +7,8 @@ mod running;
 
 pub use carrying::ReportCarrier;
 pub use decline::TelemetryDecline;
+pub use decline::TelemetryDeclineDebug;
+pub use decline::TelemetryDeclinePartialEq;
 pub use making::Telemetry;
 pub use making::check;
 pub use making::make;
