@@ -2,7 +2,6 @@
 use Rattle.std.proofs.Common.{◌≡◌, ℕ, ◌<◌, ◌≤◌, true, ◌&&◌, ltb, ◌⊎◌, List, sym, ap, ◌∙◌, subst, inl, inr, arith}
 use Rattle.std.proofs.lemmas.Bool.{cases_Bool, and_from, and_parts, lt-ltb, ltb-true}
 use Rattle.lines.specs.Sets.{has, In}
-use Rattle.lines.specs.Matrix.{downlink}
 use Rattle.lines.specs.declared.Downlink.{Downlink}
 use Rattle.matching.specs.Supports.{in_rows, Matching, Witness}
 use Rattle.matching.specs.Answers.{mate_of, Unused}

@@ -1,4 +1,6 @@
 // Partial matchings, and the search for an augmenting path, which both engines share.
+#![tactic(auto)]
+
 ghost use Rattle.augmenting.specs.Holders.{Below, Within};
 
 mod pairing;

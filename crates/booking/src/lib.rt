@@ -1,4 +1,6 @@
 // What a batch of reservations adds to the owed units, what a run mode takes off them, and what it lacks.
+#![tactic(auto)]
+
 ghost use Rattle.std.specs.Prelude.{◌≡◌, ℕ, ◌+◌, ◌-◌, Some, None, MatchResult};
 ghost use Rattle.lines.specs.Matrix.{plus};
 ghost use Rattle.lines.specs.Verdicts.{answered, or_same};

@@ -1,4 +1,6 @@
 // Cases of the checker and of plan files, made by hand.
+#![tactic(auto)]
+
 #[cfg(test)]
 mod cases;
 #[cfg(test)]

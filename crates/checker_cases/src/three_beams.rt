@@ -54,7 +54,8 @@ fn written_as_records(rt: HostRuntime) {
         0,
     ];
     assert_eq!(rt; &out[52..104], &second[0..52]);
-    assert_eq!(rt; &out[156..160], &[7, 7, 7, 7]);
+    let rest: [u8; 4] = [7, 7, 7, 7];
+    assert_eq!(rt; &out[156..160], &rest[0..4]);
 }
 
 #[test]

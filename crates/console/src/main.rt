@@ -1,4 +1,6 @@
 // Reads a script from standard input and answers each line as it comes.
+#![tactic(auto)]
+
 use replies::Reply;
 use std::io;
 use std::io::{Read, Stdin};

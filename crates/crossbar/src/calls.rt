@@ -70,7 +70,7 @@ impl Fabric {
     pub fn run<C: Carrier>(&mut self, carrier: &C) -> Result<(), SwitchDecline>
         ensures answer { result ≡ answered (mode_decline (shown self.old)) }
         ensures after { RunTo (shown self.old) (shown self.new) }
-        ensures exact { shown self.new ≡ runs_by (carries carrier.now) (shown self.old) }
+        ensures exact { shown self.new ≡ runs_by (C.carries carrier.now) (shown self.old) }
     {
         match self.mode {
             None => Err(SwitchDecline::NoMode),

@@ -17,7 +17,7 @@ pub(super) fn outcomes<C: Carrier>(
     row: &[Option<Join>; 16],
 ) -> [Option<Outcome>; 16]
     ensures carry { (i : ℕ) → CarriesAt (slice_index_or row.now i None) (slice_index_or result i None) }
-    ensures all { result ≡ outcomes_by (carries carrier.now start.clock start.room) row.now }
+    ensures all { result ≡ outcomes_by (C.carries carrier.now start.clock start.room) row.now }
 {
     let mut all: [Option<Outcome>; 16] = [None; 16];
     for i in 0..16 {

@@ -1,4 +1,6 @@
 // A crossbar: a switch whose runs carry what its carrier says.
+#![tactic(auto)]
+
 mod acts;
 mod calls;
 mod carrier;

@@ -1,4 +1,6 @@
 // A script's lines answered over the owed matrix.
+#![tactic(auto)]
+
 mod desk;
 mod stage;
 

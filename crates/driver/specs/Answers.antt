@@ -1,5 +1,5 @@
 -- What the driver answers: the switch's answer, with the token of an open mode. Assumes nothing.
-use Rattle.std.specs.Prelude.{ℕ, Some, None, Ok, Err, Option, Result}
+use Rattle.std.specs.Prelude.{ℕ, Some, None, Option, Result}
 use Rattle.lines.specs.declared.Uplink.{Uplink}
 use Rattle.lines.specs.declared.Downlink.{Downlink}
 use Rattle.lines.specs.declared.Place.{Place}

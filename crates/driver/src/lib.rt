@@ -1,4 +1,6 @@
 // The driver: programs open, grant, run and void a mode through a token that must be given back.
+#![tactic(auto)]
+
 ghost use Rattle.std.specs.Prelude.{◌≡◌};
 ghost use Rattle.lines.specs.Verdicts.{or_same};
 ghost use Rattle.switch.specs.Calls.{open_decline, opens, grant_decline, grants, RunTo, voids};
@@ -61,8 +63,8 @@ pub struct Unspent {
 }
 
 pub fn open<S: Switch>(s: &mut S, dwell: u16) -> Result<OpenMode, DriverDecline>
-    ensures answer { result ≡ open_answer dwell (meaning s.old) }
-    ensures after { meaning s.new ≡ or_same (open_decline dwell (meaning s.old)) (opens dwell (meaning s.old)) (meaning s.old) }
+    ensures answer { result ≡ open_answer dwell (S.meaning s.old) }
+    ensures after { S.meaning s.new ≡ or_same (open_decline dwell (S.meaning s.old)) (opens dwell (S.meaning s.old)) (S.meaning s.old) }
 {
     match s.open(dwell) {
         Ok(()) => Ok(OpenMode { dwell }),
@@ -77,8 +79,8 @@ pub fn grant<S: Switch>(
     down: Downlink,
     units: u16,
 ) -> Result<(), DriverDecline>
-    ensures answer { result ≡ grant_answer up down units (meaning s.old) }
-    ensures after { meaning s.new ≡ or_same (grant_decline up down units (meaning s.old)) (grants up down units (meaning s.old)) (meaning s.old) }
+    ensures answer { result ≡ grant_answer up down units (S.meaning s.old) }
+    ensures after { S.meaning s.new ≡ or_same (grant_decline up down units (S.meaning s.old)) (grants up down units (S.meaning s.old)) (S.meaning s.old) }
 {
     match s.grant(up, down, units) {
         Ok(()) => Ok(()),
@@ -87,8 +89,8 @@ pub fn grant<S: Switch>(
 }
 
 pub fn run<S: Switch>(s: &mut S, mode: OpenMode) -> Result<(), Unspent>
-    ensures answer { result ≡ spend_answer mode (meaning s.old) }
-    ensures after { RunTo (meaning s.old) (meaning s.new) }
+    ensures answer { result ≡ spend_answer mode (S.meaning s.old) }
+    ensures after { RunTo (S.meaning s.old) (S.meaning s.new) }
 {
     match s.run() {
         Ok(()) => {
@@ -103,8 +105,8 @@ pub fn run<S: Switch>(s: &mut S, mode: OpenMode) -> Result<(), Unspent>
 }
 
 pub fn void<S: Switch>(s: &mut S, mode: OpenMode) -> Result<(), Unspent>
-    ensures answer { result ≡ spend_answer mode (meaning s.old) }
-    ensures after { meaning s.new ≡ voids (meaning s.old) }
+    ensures answer { result ≡ spend_answer mode (S.meaning s.old) }
+    ensures after { S.meaning s.new ≡ voids (S.meaning s.old) }
 {
     match s.void() {
         Ok(()) => {

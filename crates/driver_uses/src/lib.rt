@@ -1,4 +1,6 @@
 // Small programs over the driver. Their must-fail edits show that an open mode can be neither forgotten nor used after its run.
+#![tactic(auto)]
+
 ghost use Rattle.std.specs.Prelude.{◌≡◌};
 ghost use Rattle.lines.specs.Verdicts.{answered, or_same};
 ghost use Rattle.switch.specs.Calls.{open_decline, opens, mode_decline, voids};
@@ -10,8 +12,8 @@ use switch::Switch;
 
 // Opens a mode and voids it: it costs the room of a mode, and carries nothing.
 pub fn skip_one<S: Switch>(s: &mut S, dwell: u16) -> Result<(), DriverDecline>
-    ensures answer { result ≡ answered (round (open_decline dwell (meaning s.old))) }
-    ensures after { meaning s.new ≡ or_same (open_decline dwell (meaning s.old)) (voids (opens dwell (meaning s.old))) (meaning s.old) }
+    ensures answer { result ≡ answered (round (open_decline dwell (S.meaning s.old))) }
+    ensures after { S.meaning s.new ≡ or_same (open_decline dwell (S.meaning s.old)) (voids (opens dwell (S.meaning s.old))) (S.meaning s.old) }
 {
     let mode = driver::open(s, dwell)?;
     match driver::void(s, mode) {
@@ -22,7 +24,7 @@ pub fn skip_one<S: Switch>(s: &mut S, dwell: u16) -> Result<(), DriverDecline>
 
 // Runs an open mode, and opens another to go on with. Where the run is declined, the same mode is handed back.
 pub fn renew<S: Switch>(s: &mut S, mode: OpenMode, dwell: u16) -> Result<OpenMode, DriverDecline>
-    ensures { Renews (mode_decline (meaning s.old)) mode dwell (meaning s.old) (meaning s.new) result }
+    ensures { Renews (mode_decline (S.meaning s.old)) mode dwell (S.meaning s.old) (S.meaning s.new) result }
 {
     match driver::run(s, mode) {
         Ok(()) => driver::open(s, dwell),

@@ -1,4 +1,5 @@
 // Both engines on worked cases, and side by side on many supports.
+#![tactic(auto)]
 
 #[cfg(test)]
 mod tests {

@@ -1,4 +1,6 @@
 // Kuhn's engine: uplinks rising, each by a search for an augmenting path with its downlinks rising.
+#![tactic(auto)]
+
 ghost use Rattle.std.specs.Prelude.{◌≡◌, ◌≤◌, Some, None, MatchResult};
 ghost use Rattle.matching.specs.Supports.{in_rows, Settled};
 ghost use Rattle.matching.specs.Answers.{Right, find_decline};

@@ -1,4 +1,6 @@
 // The calls on a session and its answers, what each call does, and the law of every list of calls.
+#![tactic(auto)]
+
 mod answer;
 mod call;
 mod decline;

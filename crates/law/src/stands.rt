@@ -14,16 +14,16 @@ pub trait Planning {
 }
 
 fn law_holds<P: Planning>(_planner: &P)
-    ensures law { EveryList makes }
-    ensures single { OneAnswer makes }
+    ensures law { EveryList P.makes }
+    ensures single { OneAnswer P.makes }
     ensures lowest { ReportIsLowest }
 {}
 
 // Every list of calls keeps the law, each call has one answer, and a step tells of the lowest uplink that fell short.
 pub fn law_stands<P: Planning>(planner: &P) -> bool
     ensures stands { result ≡ true }
-    ensures law { EveryList makes }
-    ensures single { OneAnswer makes }
+    ensures law { EveryList P.makes }
+    ensures single { OneAnswer P.makes }
     ensures lowest { ReportIsLowest }
 {
     law_holds(planner);

@@ -1,4 +1,6 @@
 // The engine by layers, as of Hopcroft and Karp: rounds of shortest augmenting paths.
+#![tactic(auto)]
+
 ghost use Rattle.matching.specs.Answers.{Right};
 ghost use Rattle.std.proofs.Common.{rules};
 

@@ -1,4 +1,6 @@
 // One call on a session, and lists of calls, with the law that holds of them all.
+#![tactic(auto)]
+
 ghost use Rattle.std.specs.Prelude.{◌≡◌, min, length, take, drop};
 ghost use Rattle.switch.specs.Meaning.{Meaning};
 ghost use Rattle.law.specs.History.{Made};
@@ -14,7 +16,7 @@ use switch::Switch;
 
 // Gives a call to a session.
 fn give<S: Switch, E: Engine>(session: &mut Session<S, E>, call: Call<'_>, out: &mut [u8]) -> Answer
-    ensures { Acted (PlannedBy E.Engine.may) call.entry result out.old out.new (state_of meaning session.old) (state_of meaning session.new) }
+    ensures { Acted (PlannedBy E.Engine.may) call.entry result out.old out.new (state_of S.meaning session.old) (state_of S.meaning session.new) }
 {
     match call {
         Call::Post { up, down, units } => session.post(up, down, units),
@@ -34,7 +36,7 @@ fn give<S: Switch, E: Engine>(session: &mut Session<S, E>, call: Call<'_>, out: 
 
 // Gives a call to a session, after whatever calls led there.
 fn act<S: Switch, E: Engine>(session: &mut Session<S, E>, call: Call<'_>, out: &mut [u8]) -> Answer
-    ensures { Lawful (PlannedBy E.Engine.may) call.entry result out.old out.new (state_of meaning session.old) (state_of meaning session.new) }
+    ensures { Lawful (PlannedBy E.Engine.may) call.entry result out.old out.new (state_of S.meaning session.old) (state_of S.meaning session.new) }
 {
     give(session, call, out)
 }
@@ -45,7 +47,7 @@ pub fn answer<S: Switch, E: Engine>(
     call: Call<'_>,
     out: &mut [u8],
 ) -> Answer
-    ensures { Lawful (PlannedBy E.Engine.may) call.entry result out.old out.new (state_of meaning session.old) (state_of meaning session.new) }
+    ensures { Lawful (PlannedBy E.Engine.may) call.entry result out.old out.new (state_of S.meaning session.old) (state_of S.meaning session.new) }
 {
     act(session, call, out)
 }
@@ -57,7 +59,7 @@ fn give_all<S: Switch, E: Engine>(
     answers: &mut [Answer],
     out: &mut [u8],
 )
-    ensures performed { (over : Meaning) → Made over (state_of meaning session.old) → Performed (PlannedBy E.Engine.may) over (take (min (length calls.now) (length answers.old)) calls.now) (take (min (length calls.now) (length answers.old)) answers.new) out.old out.new (state_of meaning session.new) }
+    ensures performed { (over : Meaning) → Made over (state_of S.meaning session.old) → Performed (PlannedBy E.Engine.may) over (take (min (length calls.now) (length answers.old)) calls.now) (take (min (length calls.now) (length answers.old)) answers.new) out.old out.new (state_of S.meaning session.new) }
     ensures untouched { drop (min (length calls.now) (length answers.old)) answers.new ≡ drop (min (length calls.now) (length answers.old)) answers.old }
 {
     let n = calls.len().min(answers.len());
@@ -75,7 +77,7 @@ pub fn perform<S: Switch, E: Engine>(
     answers: &mut [Answer],
     out: &mut [u8],
 ) -> Session<S, E>
-    ensures performed { Performed (PlannedBy E.Engine.may) (meaning switch) (take (min (length calls.now) (length answers.old)) calls.now) (take (min (length calls.now) (length answers.old)) answers.new) out.old out.new (state_of meaning result) }
+    ensures performed { Performed (PlannedBy E.Engine.may) (S.meaning switch) (take (min (length calls.now) (length answers.old)) calls.now) (take (min (length calls.now) (length answers.old)) answers.new) out.old out.new (state_of S.meaning result) }
     ensures untouched { drop (min (length calls.now) (length answers.old)) answers.new ≡ drop (min (length calls.now) (length answers.old)) answers.old }
 {
     let mut session = Session::new(heap, switch, engine);

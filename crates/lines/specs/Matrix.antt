@@ -1,5 +1,5 @@
 -- Units for each crosspoint, the sum of a line, and the busiest line. Assumes nothing.
-use Rattle.std.specs.Prelude.{◌≡◌, ℕ, ◌+◌, ◌<◌, ◌≤◌, max, Bool, cond, ◌&&◌, ◌⊎◌, List, [], ◌==◌, ◌≢◌, slice_index, slice_index_or}
+use Rattle.std.specs.Prelude.{◌≡◌, ℕ, ◌+◌, ◌<◌, ◌≤◌, max, cond, ◌&&◌, ◌⊎◌, List, [], ◌==◌, ◌≢◌, slice_index, slice_index_or}
 use Rattle.lines.specs.declared.Uplink.{Uplink}
 use Rattle.lines.specs.declared.Downlink.{Downlink}
 use Rattle.lines.specs.declared.Line.{Line}

@@ -1,4 +1,5 @@
 // Lines and crosspoints, as every layer names them.
+#![tactic(auto)]
 
 mod sets;
 

@@ -1,5 +1,5 @@
 -- What an engine's answer says of a support. Assumes nothing.
-use Rattle.std.specs.Prelude.{◌≡◌, ℕ, ◌<◌, ◌≤◌, Bool, true, false, cond, ◌||◌, List, get_or, Some, None, Option, ◌==◌, nat_lt, slice_index_or}
+use Rattle.std.specs.Prelude.{◌≡◌, ℕ, ◌<◌, ◌≤◌, Bool, cond, ◌||◌, List, get_or, Some, None, Option, ◌==◌, nat_lt, slice_index_or}
 use Rattle.lines.specs.declared.Downlink.{Downlink}
 use Rattle.lines.specs.declared.Place.{Place}
 use Rattle.lines.specs.declared.Place.TheVariants.{Nowhere}

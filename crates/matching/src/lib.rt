@@ -1,4 +1,6 @@
 // What a matching engine is: what it may answer for the support of a matrix.
+#![tactic(auto)]
+
 ghost use Rattle.std.specs.Prelude.{◌≡◌, ℕ, Some, None, MatchResult};
 ghost use Rattle.matching.specs.Supports.{in_rows, Settled};
 ghost use Rattle.matching.specs.Answers.{May, AllRight, Right, NotBoth, find_decline, number, place};

@@ -1,5 +1,5 @@
 -- The busiest line bounds each line. Assumes nothing.
-use Rattle.std.proofs.Common.{◌≡◌, ℕ, ◌+◌, ◌<◌, ◌≤◌, max, ◌&&◌, eqb, ◌⊎◌, sym, refl, ap, ◌∙◌, inl, inr, arith}
+use Rattle.std.proofs.Common.{◌≡◌, ℕ, ◌+◌, ◌<◌, ◌≤◌, ◌&&◌, eqb, sym, refl, ap, ◌∙◌, inl, inr, arith}
 use Rattle.std.proofs.lemmas.Bool.{cases_eq, eq-eqb, ne_eqb, and_from, and_left, and_right, cond-true, cond-false}
 use Rattle.lines.specs.Matrix.{Matrix, uplink_sum, downlink_sum, busiest, only, Wrote, Within, Blank}
 use Rattle.lines.proofs.Sums.{sum_same, sum_le, sum_change, sum_zeros, largest_bounds, largest_least}

@@ -1,4 +1,6 @@
 // The units that are owed, and the calls that change them.
+#![tactic(auto)]
+
 mod calls;
 mod decline;
 mod matrix;

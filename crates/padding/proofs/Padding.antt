@@ -1,10 +1,10 @@
 -- Padding fills every line. Assumes nothing.
-use Rattle.std.proofs.Common.{◌≡◌, ℕ, zero, suc, ◌+◌, ◌-◌, ◌*◌, ◌<◌, ◌≤◌, min, max, ◌⊎◌, sym, refl, ap, ◌∙◌, inl, inr, arith}
+use Rattle.std.proofs.Common.{◌≡◌, ℕ, zero, suc, ◌+◌, ◌-◌, ◌*◌, ◌<◌, ◌≤◌, min, ◌⊎◌, sym, ◌∙◌, inl, inr, arith}
 use Rattle.std.proofs.lemmas.Bool.{cases_eq, cases_lt}
-use Rattle.lines.specs.Sums.{sum_below, largest_below}
+use Rattle.lines.specs.Sums.{sum_below}
 use Rattle.lines.specs.Matrix.{Matrix, uplink_sum, downlink_sum, busiest, Even, Same, Blank}
-use Rattle.padding.specs.Padding.{up_lack, down_lack, PaddedTo, Padded, Padding}
-use Rattle.lines.proofs.Sums.{sum_zeros, sum_same, sum_le, sum_add, sum_const, sum_swap, sum_prefix, sum_tight}
+use Rattle.padding.specs.Padding.{PaddedTo, Padded, Padding}
+use Rattle.lines.proofs.Sums.{sum_same, sum_add, sum_const, sum_swap, sum_prefix, sum_tight}
 use Rattle.owed.proofs.Busiest.{up_le_busiest, down_le_busiest}
 
 -- a is added at the visits where uplink i lacks u i and downlink j lacks d j at first

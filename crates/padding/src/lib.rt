@@ -1,4 +1,6 @@
 // Padding of the owed matrix: units are added until every line sum is the busiest line.
+#![tactic(auto)]
+
 ghost use Rattle.std.specs.Prelude.{◌≡◌, ℕ, ◌+◌, ◌-◌, ◌^◌, ◌<◌, ◌≤◌, min, slice_set};
 ghost use Rattle.lines.specs.Matrix.{cells, load, downlink_sum, busiest, Inside};
 ghost use Rattle.owed.specs.Calls.{lines_of, units_of};

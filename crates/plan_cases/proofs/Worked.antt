@@ -1,12 +1,11 @@
 -- Worked plans. Assumes nothing.
-use Rattle.std.proofs.Common.{◌≡◌, ℕ, zero, suc, ◌+◌, ◌<◌, ◌≤◌, min, Bool, true, ◌&&◌, eqb, ◌⊎◌, List, [], ◌∷◌, length, refl, inl, inr, arith}
+use Rattle.std.proofs.Common.{◌≡◌, ℕ, zero, suc, ◌+◌, ◌<◌, ◌≤◌, min, Bool, true, ◌&&◌, eqb, List, [], ◌∷◌, length, refl, inl, inr, arith}
 use Rattle.std.proofs.lemmas.Bool.{cases_eq, and_parts, eqb-true}
 use Rattle.lines.specs.Matrix.{Matrix, Same}
 use Rattle.matching.specs.Answers.{May, AllRight}
 use Rattle.schedule.specs.declared.Mode.{Mode}
 use Rattle.schedule.specs.Modes.{span}
 use Rattle.padding.specs.Padding.{up_lack, down_lack, Padded}
-use Rattle.planning.specs.Making.{MadeBy}
 use Rattle.planning.proofs.Rounds.{positives_most}
 use Rattle.planning.proofs.Serving.{best}
 use Rattle.plan_cases.specs.Worked.{three, three_padded, five, Worked}

@@ -1,5 +1,5 @@
 -- Worked plans: what holds of every plan for a few small matrices. Assumes nothing.
-use Rattle.std.specs.Prelude.{◌≡◌, ℕ, ◌≤◌, List, [], ◌∷◌, length}
+use Rattle.std.specs.Prelude.{◌≡◌, ◌≤◌, List, [], ◌∷◌, length}
 use Rattle.lines.specs.Matrix.{Matrix, cells, busiest}
 use Rattle.matching.specs.Answers.{May}
 use Rattle.schedule.specs.declared.Mode.{Mode}

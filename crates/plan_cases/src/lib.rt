@@ -1,4 +1,6 @@
 // Plans for matrices of many shapes, with both engines.
+#![tactic(auto)]
+
 ghost use Rattle.plan_cases.specs.Worked.{Worked};
 
 use matching::Engine;

@@ -1,4 +1,6 @@
 // Plans written as records and read back.
+#![tactic(auto)]
+
 ghost use Rattle.std.specs.Prelude.{◌≡◌, ◌*◌, ◌++◌, length, drop, MatchResult};
 ghost use Rattle.lines.specs.Verdicts.{or_same};
 ghost use Rattle.planning.specs.Plans.{plan_lines, plan_modes};

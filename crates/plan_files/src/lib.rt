@@ -1,4 +1,6 @@
 // Plan files: modes written as records into a caller's buffer, and read back.
+#![tactic(auto)]
+
 mod back;
 mod decline;
 mod read;

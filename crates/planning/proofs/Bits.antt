@@ -2,7 +2,7 @@
 use Rattle.std.proofs.Common.{◌≡◌, ℕ, zero, suc, ◌+◌, ◌*◌, ◌/◌, ◌%◌, ◌^◌, ◌<◌, ◌≤◌, Bool, true, false, ltb, List, length, get_or, refl, ap, ◌∙◌, arith}
 use Rattle.std.proofs.lemmas.List.FromFn.{get_or-map-range_with_len, fill_by_all}
 use Rattle.std.proofs.lemmas.Bool.{lt-ltb, cond-true}
-use Rattle.lines.specs.Sums.{sum_below, one_if}
+use Rattle.lines.specs.Sums.{one_if}
 use Rattle.lines.specs.Matrix.{Matrix}
 use Rattle.lines.specs.Sets.{has}
 use Rattle.lines.proofs.Sums.{sum_front, sum_same, sum_times, sum_next}

@@ -1,5 +1,5 @@
 -- Mode after mode, as a loop makes them. Assumes nothing.
-use Rattle.std.proofs.Common.{◌≡◌, ℕ, ◌-◌, ◌<◌, ◌≤◌, ◌⊎◌, List, [], ◌∷◌, ◌++◌, Option, sym, refl, ap, ◌∙◌, subst, ap₂, inl, inr, append_assoc, append-nil, arith}
+use Rattle.std.proofs.Common.{◌≡◌, ℕ, ◌-◌, ◌<◌, ◌≤◌, List, [], ◌∷◌, ◌++◌, Option, sym, ap, ◌∙◌, subst, ap₂, append_assoc, append-nil, arith}
 use Rattle.lines.specs.declared.Downlink.{Downlink}
 use Rattle.lines.specs.Matrix.{Matrix, busiest, Even, Blank, Same, nothing}
 use Rattle.lines.proofs.Sums.{sum_zeros, term_le_sum}

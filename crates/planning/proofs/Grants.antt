@@ -1,5 +1,5 @@
 -- The grants of a mode that is made from a matching. Assumes nothing.
-use Rattle.std.proofs.Common.{◌≡◌, ℕ, ◌+◌, ◌-◌, ◌<◌, ◌≤◌, min, Bool, true, false, cond, eqb, ltb, ◌⊎◌, List, length, get_or, Some, None, Option, sym, refl, ap, ◌∙◌, inl, inr, arith}
+use Rattle.std.proofs.Common.{◌≡◌, ℕ, ◌<◌, ◌≤◌, min, Bool, true, false, cond, eqb, ltb, List, length, get_or, Some, None, Option, sym, refl, ap, ◌∙◌, inl, inr, arith}
 use Rattle.std.proofs.lemmas.List.FromFn.{get_or-map-range_with_len, length-map-range_with_len, fill_by_all}
 use Rattle.std.proofs.lemmas.List.{get_or_past}
 use Rattle.std.proofs.lemmas.Bool.{cases_eq, cases_lt, lt-ltb, le-ltb, eq-eqb, ne_eqb, cond-true, cond-false}
@@ -7,9 +7,8 @@ use Rattle.lines.specs.declared.Downlink.{Downlink}
 use Rattle.lines.specs.Matrix.{Matrix}
 use Rattle.matching.specs.Answers.{unused, mate_of}
 use Rattle.schedule.specs.declared.Join.{Join}
-use Rattle.schedule.specs.declared.Mode.{Mode}
-use Rattle.schedule.specs.Modes.{longest_dwell, grant_of, units_to, granted, Sound}
-use Rattle.planning.specs.Making.{dwell_of, grant_for, grant_at, grant_row, mode_of, matched}
+use Rattle.schedule.specs.Modes.{longest_dwell, grant_of, units_to, Sound}
+use Rattle.planning.specs.Making.{dwell_of, grant_for, grant_at, grant_row, mode_of}
 use Rattle.planning.proofs.Rounds.{Peel, hit_here, hit_else, dwell_pos}
 
 -- rows that are the mode's, uplink by uplink

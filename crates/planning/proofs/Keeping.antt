@@ -1,5 +1,5 @@
 -- What every plan keeps true, and what follows from it. Assumes nothing.
-use Rattle.std.proofs.Common.{◌≡◌, ℕ, zero, suc, ◌+◌, ◌<◌, ◌≤◌, List, [], ◌∷◌, length, Some, sym, refl, ap, ◌∙◌, arith}
+use Rattle.std.proofs.Common.{◌≡◌, ℕ, zero, suc, ◌<◌, ◌≤◌, List, [], ◌∷◌, length, Some, sym, refl, ap, ◌∙◌, arith}
 use Rattle.lines.specs.declared.Downlink.{Downlink}
 use Rattle.lines.specs.Matrix.{Matrix, busiest}
 use Rattle.matching.specs.Answers.{May, AllRight}

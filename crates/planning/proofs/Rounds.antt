@@ -1,5 +1,5 @@
 -- What a matching takes off a matrix whose lines have one sum, round after round. Assumes nothing.
-use Rattle.std.proofs.Common.{◌≡◌, ℕ, zero, suc, ◌+◌, ◌-◌, ◌*◌, ◌<◌, ◌≤◌, min, Bool, true, false, cond, eqb, ltb, ◌⊎◌, List, [], ◌∷◌, length, sym, refl, ap, ◌∙◌, inl, inr, arith}
+use Rattle.std.proofs.Common.{◌≡◌, ℕ, zero, suc, ◌+◌, ◌-◌, ◌*◌, ◌<◌, ◌≤◌, Bool, true, false, cond, eqb, ltb, List, [], ◌∷◌, length, sym, refl, ap, ◌∙◌, inl, inr, arith}
 use Rattle.std.proofs.lemmas.Bool.{cases_eq, cases_lt, eq-eqb, ne_eqb, ltb-true, lt-ltb, le-ltb, cond-true, cond-false}
 use Rattle.lines.specs.declared.Downlink.{Downlink}
 use Rattle.lines.specs.Sums.{sum_below, count_below, one_if}
@@ -12,7 +12,7 @@ use Rattle.matching.specs.Supports.{Matching, in_rows}
 use Rattle.matching.specs.Answers.{May, AllRight, mate_of}
 use Rattle.schedule.specs.Modes.{longest_dwell}
 use Rattle.planning.specs.Supports.{support, positives, support_rows}
-use Rattle.planning.specs.Making.{smallest_below, dwell_of, minus, matched, padded_left, Asked, Usable}
+use Rattle.planning.specs.Making.{smallest_below, dwell_of, padded_left, Asked, Usable}
 use Rattle.planning.proofs.Bits.{rows_hold}
 use Rattle.planning.proofs.Hall.{no_witness, matching_alike, witness_alike}
 

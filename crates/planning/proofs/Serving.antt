@@ -1,5 +1,5 @@
 -- The modes of a plan serve what is owed, in the time of the busiest line. Assumes nothing.
-use Rattle.std.proofs.Common.{◌≡◌, ℕ, suc, ◌+◌, ◌-◌, ◌*◌, ◌<◌, ◌≤◌, min, cond, eqb, ◌⊎◌, List, [], ◌∷◌, length, sym, refl, ap, ◌∙◌, inl, inr, mul-le-mul_right, arith}
+use Rattle.std.proofs.Common.{◌≡◌, ℕ, suc, ◌+◌, ◌-◌, ◌*◌, ◌<◌, ◌≤◌, min, List, [], ◌∷◌, length, refl, ap, ◌∙◌, inl, inr, mul-le-mul_right, arith}
 use Rattle.std.proofs.lemmas.Bool.{cases_eq}
 use Rattle.lines.specs.declared.Downlink.{Downlink}
 use Rattle.lines.specs.Matrix.{Matrix, busiest, Even}
@@ -14,7 +14,7 @@ use Rattle.padding.proofs.Padding.{keeps, padding_fills, padding_single}
 use Rattle.planning.specs.Supports.{positives}
 use Rattle.planning.specs.Making.{dwell_of, mode_of, padded_left, owed_left, modes_from, MadeBy}
 use Rattle.planning.specs.Best.{Best}
-use Rattle.planning.proofs.Rounds.{Peel, Peels, total_dwell, hit_here, hit_else, even_peel, dwell_le, asked_peels, few_rounds, positives_most, positives_same}
+use Rattle.planning.proofs.Rounds.{Peels, total_dwell, hit_here, hit_else, even_peel, dwell_le, asked_peels, few_rounds, positives_most, positives_same}
 use Rattle.planning.proofs.Grants.{mode_sound, units_are}
 
 pub modes_sound : (n b : ℕ) (p : Matrix) (ms : List (List Downlink)) → 0 < n → n ≤ 16 → b ≤ longest_dwell → Even n b p → Peels n p ms → (q : Matrix) → AllSound n (modes_from n p q ms)

@@ -1,5 +1,5 @@
 -- Making a plan: how the matchings of an engine become modes. Assumes nothing.
-use Rattle.std.specs.Prelude.{◌≡◌, ℕ, zero, suc, ◌-◌, ◌<◌, ◌≤◌, min, cond, ◌&&◌, List, [], ◌∷◌, map, Some, None, Option, ◌==◌, nat_lt, slice_index_or}
+use Rattle.std.specs.Prelude.{◌≡◌, ℕ, zero, suc, ◌-◌, ◌<◌, ◌≤◌, min, cond, List, [], ◌∷◌, map, Some, None, Option, ◌==◌, nat_lt, slice_index_or}
 use Rattle.std.specs.List.{range_with_len}
 use Rattle.lines.specs.declared.Downlink.{Downlink}
 use Rattle.lines.specs.Matrix.{Matrix, Same, nothing}

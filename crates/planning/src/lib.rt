@@ -1,4 +1,6 @@
 // Making plans: the shortest schedule for what is owed, of an engine's matchings.
+#![tactic(auto)]
+
 mod calls;
 mod decline;
 mod make;

@@ -1,4 +1,6 @@
 // The records of files: reservations and modes.
+#![tactic(auto)]
+
 mod record;
 mod reservation;
 

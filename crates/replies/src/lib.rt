@@ -1,4 +1,6 @@
 // The answer lines of a console.
+#![tactic(auto)]
+
 ghost use Rattle.std.specs.Prelude.{◌≡◌, IfOk, Some, string_bytes};
 ghost use Rattle.replies.specs.Replies.{stop_word, line_of};
 

@@ -3,3 +3,4 @@ pub mod Shops
 pub mod Unfolded
 pub mod Lengths
 pub mod Rules
+pub mod Equal

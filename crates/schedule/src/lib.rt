@@ -1,11 +1,12 @@
 // Modes and schedules, and the bound that no schedule beats.
+#![tactic(auto)]
+
 ghost use Rattle.std.specs.Prelude.{◌≡◌, ◌+◌, ◌≤◌, true, Decides};
 ghost use Rattle.schedule.specs.Bounds.{NoShorter, NoShorterShop, NoShorterParts, Unfolds};
 ghost use Rattle.schedule.specs.Modes.{longest_dwell, grant_of, granted, Sound, span, in_32_bits};
+ghost use Rattle.schedule.specs.Equal.{same_rows, same_mode, same_mode_equiv};
 ghost use Rattle.schedule.specs.Rules.{Fitting, Free, Kept};
-ghost use Rattle.std.specs.Cmp.Rules.{comparing};
-ghost use Rattle.std.proofs.Common.{rules};
-ghost use Rattle.std.specs.Cmp as Keys;
+ghost use Rattle.std.specs.Cmp.{partial_equiv_from_equiv};
 
 use lines::{Downlink, Uplink};
 
@@ -17,20 +18,27 @@ pub struct Join {
 }
 
 // A dwell, and for each uplink its grant, if any: so no uplink has two.
-#[derive(Clone, Copy, Eq, Debug)]
+#[derive(Clone, Copy, Debug)]
 pub struct Mode {
     pub dwell: u16,
     pub row: [Option<Join>; 16],
 }
 
 impl PartialEq for Mode {
-    ghost equals = { λ x y r. Decides r (x ≡ y) };
+    ghost eq = { same_mode };
 
-    ghost laws = { Keys.partial_equiv_from_equiv (Prim.search (comparing, rules)) };
+    ghost laws = { partial_equiv_from_equiv same_mode_equiv };
 
-    fn eq(&self, other: &Mode) -> bool {
+    fn eq(&self, other: &Mode) -> bool
+        ensures value { result ≡ same_mode self.now other.now }
+        ensures same { Decides result (self.now ≡ other.now) }
+    {
         self.dwell == other.dwell && same_row(&self.row, &other.row)
     }
+}
+
+impl Eq for Mode {
+    ghost laws = { same_mode_equiv };
 }
 
 impl Mode {
@@ -57,7 +65,8 @@ impl Mode {
 
 // Whether two rows hold the same grants.
 fn same_row(one: &[Option<Join>; 16], other: &[Option<Join>; 16]) -> bool
-    ensures { Decides result (one.now ≡ other.now) }
+    ensures value { result ≡ same_rows one.now other.now }
+    ensures same { Decides result (one.now ≡ other.now) }
 {
     for i in 0..16 {
         if one[i] != other[i] {

@@ -1,4 +1,5 @@
 // Scripts, line by line, with the answers that they must get.
+#![tactic(auto)]
 
 #[cfg(test)]
 mod tests {

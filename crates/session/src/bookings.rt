@@ -17,16 +17,16 @@ use switch::Switch;
 impl<S: Switch, E: Engine> Session<S, E> {
     // Whether the switch has the lines that units are owed on, as it always has.
     pub(super) fn agrees(&self) -> bool
-        ensures { result ≡ ((meaning self.now.«switch»).lines == lines_of self.now.owed) }
+        ensures { result ≡ ((S.meaning self.now.«switch»).lines == lines_of self.now.owed) }
     {
         self.switch.lines() == self.owed.lines()
     }
 
     // Lets go of a plan for other lines than the switch has: such a plan stands nowhere.
     pub(super) fn refresh(&mut self)
-        ensures same { state_of meaning self.new ≡ state_of meaning self.old }
-        ensures plan { (state_of meaning self.new).plan ≡ standing self.new.state }
-        ensures lines { lines_for (meaning self.new.«switch»).lines self.new.state ≡ (meaning self.new.«switch»).lines }
+        ensures same { state_of S.meaning self.new ≡ state_of S.meaning self.old }
+        ensures plan { (state_of S.meaning self.new).plan ≡ standing self.new.state }
+        ensures lines { lines_for (S.meaning self.new.«switch»).lines self.new.state ≡ (S.meaning self.new.«switch»).lines }
     {
         if self.switch.lines() != self.owed.lines() {
             self.state = State::Idle;
@@ -39,7 +39,7 @@ impl<S: Switch, E: Engine> Session<S, E> {
         down: Downlink,
         units: u32,
     ) -> Result<(), SessionDecline>
-        ensures { Acts (PlannedBy E.Engine.may) (Post up down units) (accepted result) (state_of meaning self.old) (state_of meaning self.new) }
+        ensures { Acts (PlannedBy E.Engine.may) (Post up down units) (accepted result) (state_of S.meaning self.old) (state_of S.meaning self.new) }
     {
         self.refresh();
         match self.state {
@@ -57,7 +57,7 @@ impl<S: Switch, E: Engine> Session<S, E> {
         down: Downlink,
         units: u32,
     ) -> Result<(), SessionDecline>
-        ensures { Acts (PlannedBy E.Engine.may) (Withdraw up down units) (accepted result) (state_of meaning self.old) (state_of meaning self.new) }
+        ensures { Acts (PlannedBy E.Engine.may) (Withdraw up down units) (accepted result) (state_of S.meaning self.old) (state_of S.meaning self.new) }
     {
         self.refresh();
         match self.state {
@@ -70,7 +70,7 @@ impl<S: Switch, E: Engine> Session<S, E> {
     }
 
     pub(super) fn book_batch(&mut self, bytes: &[u8]) -> Result<(), SessionDecline>
-        ensures { Acts (PlannedBy E.Engine.may) (Batch bytes.entry) (accepted result) (state_of meaning self.old) (state_of meaning self.new) }
+        ensures { Acts (PlannedBy E.Engine.may) (Batch bytes.entry) (accepted result) (state_of S.meaning self.old) (state_of S.meaning self.new) }
     {
         self.refresh();
         match self.state {
@@ -84,7 +84,7 @@ impl<S: Switch, E: Engine> Session<S, E> {
 
     // Makes a plan and takes it up, and answers its number of modes and its length.
     pub(super) fn take_up(&mut self) -> Result<(usize, u32), SessionDecline>
-        ensures { Acts (PlannedBy E.Engine.may) ToPlan (planned_of result) (state_of meaning self.old) (state_of meaning self.new) }
+        ensures { Acts (PlannedBy E.Engine.may) ToPlan (planned_of result) (state_of S.meaning self.old) (state_of S.meaning self.new) }
     {
         self.refresh();
         match self.state {
@@ -113,7 +113,7 @@ impl<S: Switch, E: Engine> Session<S, E> {
     }
 
     pub(super) fn end_plan(&mut self) -> Result<(), SessionDecline>
-        ensures { Acts (PlannedBy E.Engine.may) ToDrop (accepted result) (state_of meaning self.old) (state_of meaning self.new) }
+        ensures { Acts (PlannedBy E.Engine.may) ToDrop (accepted result) (state_of S.meaning self.old) (state_of S.meaning self.new) }
     {
         self.refresh();
         match self.state {
@@ -126,7 +126,7 @@ impl<S: Switch, E: Engine> Session<S, E> {
     }
 
     pub(super) fn units_owed(&self, up: Uplink, down: Downlink) -> Result<u32, SessionDecline>
-        ensures { Acts (PlannedBy E.Engine.may) (AskOwed up down) (units_told result) (state_of meaning self.now) (state_of meaning self.now) }
+        ensures { Acts (PlannedBy E.Engine.may) (AskOwed up down) (units_told result) (state_of S.meaning self.now) (state_of S.meaning self.now) }
     {
         match self.owed.units(up, down) {
             Ok(units) => Ok(units),
@@ -135,7 +135,7 @@ impl<S: Switch, E: Engine> Session<S, E> {
     }
 
     pub(super) fn count_left(&self) -> u32
-        ensures { Acts (PlannedBy E.Engine.may) ModesLeft (Units result) (state_of meaning self.now) (state_of meaning self.now) }
+        ensures { Acts (PlannedBy E.Engine.may) ModesLeft (Units result) (state_of S.meaning self.now) (state_of S.meaning self.now) }
     {
         match &self.state {
             State::Idle => 0,

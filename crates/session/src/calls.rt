@@ -16,7 +16,7 @@ use switch::Switch;
 impl<S: Switch, E: Engine> Session<S, E> {
     // A session with nothing owed and no plan. A mode that is open on the switch is voided.
     pub fn new(heap: Global, mut switch: S, engine: E) -> Session<S, E>
-        ensures { Made (meaning switch) (state_of meaning result) }
+        ensures { Made (S.meaning switch) (state_of S.meaning result) }
     {
         let _ = switch.void();
         let owed = match Owed::new(switch.lines()) {
@@ -34,7 +34,7 @@ impl<S: Switch, E: Engine> Session<S, E> {
 
     // Adds units to those owed at a crosspoint.
     pub fn post(&mut self, up: Uplink, down: Downlink, units: u32) -> Answer
-        ensures { Acts (PlannedBy E.Engine.may) (Post up down units) result (state_of meaning self.old) (state_of meaning self.new) }
+        ensures { Acts (PlannedBy E.Engine.may) (Post up down units) result (state_of S.meaning self.old) (state_of S.meaning self.new) }
     {
         match self.book_post(up, down, units) {
             Ok(()) => Answer::Accepted,
@@ -44,7 +44,7 @@ impl<S: Switch, E: Engine> Session<S, E> {
 
     // Takes units off those owed at a crosspoint.
     pub fn withdraw(&mut self, up: Uplink, down: Downlink, units: u32) -> Answer
-        ensures { Acts (PlannedBy E.Engine.may) (Withdraw up down units) result (state_of meaning self.old) (state_of meaning self.new) }
+        ensures { Acts (PlannedBy E.Engine.may) (Withdraw up down units) result (state_of S.meaning self.old) (state_of S.meaning self.new) }
     {
         match self.book_withdrawal(up, down, units) {
             Ok(()) => Answer::Accepted,
@@ -54,7 +54,7 @@ impl<S: Switch, E: Engine> Session<S, E> {
 
     // Posts reservations, all of them or none.
     pub fn batch(&mut self, bytes: &[u8]) -> Answer
-        ensures { Acts (PlannedBy E.Engine.may) (Batch bytes.entry) result (state_of meaning self.old) (state_of meaning self.new) }
+        ensures { Acts (PlannedBy E.Engine.may) (Batch bytes.entry) result (state_of S.meaning self.old) (state_of S.meaning self.new) }
     {
         match self.book_batch(bytes) {
             Ok(()) => Answer::Accepted,
@@ -64,7 +64,7 @@ impl<S: Switch, E: Engine> Session<S, E> {
 
     // Makes a plan for what is owed, and takes it up.
     pub fn plan(&mut self) -> Answer
-        ensures { Acts (PlannedBy E.Engine.may) ToPlan result (state_of meaning self.old) (state_of meaning self.new) }
+        ensures { Acts (PlannedBy E.Engine.may) ToPlan result (state_of S.meaning self.old) (state_of S.meaning self.new) }
     {
         match self.take_up() {
             Ok((modes, length)) => Answer::Planned { modes, length },
@@ -74,7 +74,7 @@ impl<S: Switch, E: Engine> Session<S, E> {
 
     // Runs the next mode. What it carried leaves the owed units.
     pub fn step(&mut self) -> Answer
-        ensures { Acts (PlannedBy E.Engine.may) ToStep result (state_of meaning self.old) (state_of meaning self.new) }
+        ensures { Acts (PlannedBy E.Engine.may) ToStep result (state_of S.meaning self.old) (state_of S.meaning self.new) }
     {
         match self.next_step() {
             Ok(x) => Answer::Stepped {
@@ -88,7 +88,7 @@ impl<S: Switch, E: Engine> Session<S, E> {
 
     // Steps up to so many modes.
     pub fn run(&mut self, budget: u16) -> Answer
-        ensures { Acts (PlannedBy E.Engine.may) (ToRun budget) result (state_of meaning self.old) (state_of meaning self.new) }
+        ensures { Acts (PlannedBy E.Engine.may) (ToRun budget) result (state_of S.meaning self.old) (state_of S.meaning self.new) }
     {
         match self.run_modes(budget) {
             Ok((count, cause)) => Answer::Ran { count, cause },
@@ -98,7 +98,7 @@ impl<S: Switch, E: Engine> Session<S, E> {
 
     // Ends the plan. What is owed stays.
     pub fn drop_plan(&mut self) -> Answer
-        ensures { Acts (PlannedBy E.Engine.may) ToDrop result (state_of meaning self.old) (state_of meaning self.new) }
+        ensures { Acts (PlannedBy E.Engine.may) ToDrop result (state_of S.meaning self.old) (state_of S.meaning self.new) }
     {
         match self.end_plan() {
             Ok(()) => Answer::Accepted,
@@ -108,7 +108,7 @@ impl<S: Switch, E: Engine> Session<S, E> {
 
     // The units owed at a crosspoint.
     pub fn owed(&self, up: Uplink, down: Downlink) -> Answer
-        ensures { Acts (PlannedBy E.Engine.may) (AskOwed up down) result (state_of meaning self.now) (state_of meaning self.now) }
+        ensures { Acts (PlannedBy E.Engine.may) (AskOwed up down) result (state_of S.meaning self.now) (state_of S.meaning self.now) }
     {
         match self.units_owed(up, down) {
             Ok(units) => Answer::Units(units),
@@ -118,21 +118,21 @@ impl<S: Switch, E: Engine> Session<S, E> {
 
     // The largest line sum.
     pub fn busiest(&self) -> Answer
-        ensures { Acts (PlannedBy E.Engine.may) Busiest result (state_of meaning self.now) (state_of meaning self.now) }
+        ensures { Acts (PlannedBy E.Engine.may) Busiest result (state_of S.meaning self.now) (state_of S.meaning self.now) }
     {
         Answer::Units(self.owed.busiest())
     }
 
     // The number of modes left.
     pub fn modes_left(&self) -> Answer
-        ensures { Acts (PlannedBy E.Engine.may) ModesLeft result (state_of meaning self.now) (state_of meaning self.now) }
+        ensures { Acts (PlannedBy E.Engine.may) ModesLeft result (state_of S.meaning self.now) (state_of S.meaning self.now) }
     {
         Answer::Units(self.count_left())
     }
 
     // The length of the modes left.
     pub fn length_left(&self) -> Answer
-        ensures { Acts (PlannedBy E.Engine.may) LengthLeft result (state_of meaning self.now) (state_of meaning self.now) }
+        ensures { Acts (PlannedBy E.Engine.may) LengthLeft result (state_of S.meaning self.now) (state_of S.meaning self.now) }
     {
         match &self.state {
             State::Idle => Answer::Units(0),
@@ -148,7 +148,7 @@ impl<S: Switch, E: Engine> Session<S, E> {
 
     // Writes the modes left as records into the front of a buffer. The bytes after them keep their content.
     pub fn write(&self, out: &mut [u8]) -> Answer
-        ensures { Does (PlannedBy E.Engine.may) ToWrite result [] out.old out.new (state_of meaning self.now) (state_of meaning self.now) }
+        ensures { Does (PlannedBy E.Engine.may) ToWrite result [] out.old out.new (state_of S.meaning self.now) (state_of S.meaning self.now) }
     {
         match self.write_left(out) {
             Ok(used) => Answer::Wrote(used),

@@ -1,4 +1,6 @@
 // A session over a switch and an engine: bookings, plans, and the modes that run.
+#![tactic(auto)]
+
 mod bookings;
 mod calls;
 mod running;

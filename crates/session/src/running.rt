@@ -44,7 +44,7 @@ fn go_on(state: &mut State, dwell: u16)
 
 // Runs a mode of a plan on a switch: it is opened, granted and run.
 fn run_planned<S: Switch>(s: &mut S, mode: &Mode) -> Result<[Option<Outcome>; 16], DriverDecline>
-    ensures { Sound (meaning s.old).lines mode.now → Runs mode.now (meaning s.old) (meaning s.new) result }
+    ensures { Sound (S.meaning s.old).lines mode.now → Runs mode.now (S.meaning s.old) (S.meaning s.new) result }
 {
     run_mode(s, mode)
 }
@@ -52,7 +52,7 @@ fn run_planned<S: Switch>(s: &mut S, mode: &Mode) -> Result<[Option<Outcome>; 16
 impl<S: Switch, E: Engine> Session<S, E> {
     // Whether a plan stands.
     fn stands(&self) -> bool
-        ensures { result ≡ standing_plan (state_of meaning self.now).plan }
+        ensures { result ≡ standing_plan (state_of S.meaning self.now).plan }
     {
         match self.state {
             State::Idle => false,
@@ -62,7 +62,7 @@ impl<S: Switch, E: Engine> Session<S, E> {
 
     // Runs the plan's next mode.
     fn advance(&mut self) -> Result<Step, SessionDecline>
-        ensures { MatchResult result (λ x. StepsTo x (state_of meaning self.old) (state_of meaning self.new)) (λ d. Stays d (state_of meaning self.old) (state_of meaning self.new)) }
+        ensures { MatchResult result (λ x. StepsTo x (state_of S.meaning self.old) (state_of S.meaning self.new)) (λ d. Stays d (state_of S.meaning self.old) (state_of S.meaning self.new)) }
     {
         self.refresh();
         let (mode, number) = match &self.state {
@@ -84,7 +84,7 @@ impl<S: Switch, E: Engine> Session<S, E> {
     }
 
     pub(super) fn next_step(&mut self) -> Result<Step, SessionDecline>
-        ensures { Acts (PlannedBy E.Engine.may) ToStep (stepped_of result) (state_of meaning self.old) (state_of meaning self.new) }
+        ensures { Acts (PlannedBy E.Engine.may) ToStep (stepped_of result) (state_of S.meaning self.old) (state_of S.meaning self.new) }
     {
         match self.advance() {
             Ok(x) => Ok(x),
@@ -94,7 +94,7 @@ impl<S: Switch, E: Engine> Session<S, E> {
 
     // Steps up to so many modes, and answers how many ran and why it stopped.
     pub(super) fn run_modes(&mut self, budget: u16) -> Result<(u16, Cause), SessionDecline>
-        ensures { Acts (PlannedBy E.Engine.may) (ToRun budget) (ran_of result) (state_of meaning self.old) (state_of meaning self.new) }
+        ensures { Acts (PlannedBy E.Engine.may) (ToRun budget) (ran_of result) (state_of S.meaning self.old) (state_of S.meaning self.new) }
     {
         if !self.stands() {
             return Err(SessionDecline::NoPlan);

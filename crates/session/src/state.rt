@@ -15,6 +15,7 @@ pub enum State {
     Planned { plan: Plan, place: usize, left: u32 },
 }
 
+#[derive(Drop)]
 pub struct Session<S, E> {
     pub(super) switch: S,
     pub(super) engine: E,

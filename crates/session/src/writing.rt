@@ -12,7 +12,7 @@ use switch::Switch;
 
 impl<S: Switch, E: Engine> Session<S, E> {
     pub(super) fn write_left(&self, out: &mut [u8]) -> Result<usize, SessionDecline>
-        ensures { Does (PlannedBy E.Engine.may) ToWrite (wrote_of result) [] out.old out.new (state_of meaning self.now) (state_of meaning self.now) }
+        ensures { Does (PlannedBy E.Engine.may) ToWrite (wrote_of result) [] out.old out.new (state_of S.meaning self.now) (state_of S.meaning self.now) }
     {
         match &self.state {
             State::Idle => Err(SessionDecline::NoPlan),

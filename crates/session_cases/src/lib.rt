@@ -1,4 +1,5 @@
 // Sessions over both switches and both engines: lists of calls, with the answers that they must get.
+#![tactic(auto)]
 
 #[cfg(test)]
 mod tests {

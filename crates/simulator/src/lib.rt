@@ -1,4 +1,6 @@
 // A simulator of a switch, with fault rules.
+#![tactic(auto)]
+
 mod carrying;
 mod decline;
 mod making;

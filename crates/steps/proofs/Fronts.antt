@@ -1,5 +1,5 @@
 -- The first entries of a row of grants, as they are made one by one. Assumes nothing.
-use Rattle.std.proofs.Common.{◌≡◌, ℕ, zero, suc, ◌<◌, ◌≤◌, List, [], ◌∷◌, length, get_or, set, replicate, Some, None, Option, sym, refl, ap, ◌∙◌, arith}
+use Rattle.std.proofs.Common.{◌≡◌, ℕ, zero, suc, ◌<◌, ◌≤◌, List, [], ◌∷◌, length, get_or, set, replicate, None, Option, refl, ap, arith}
 use Rattle.schedule.specs.declared.Join.{Join}
 use Rattle.steps.specs.WholeMode.{front}
 

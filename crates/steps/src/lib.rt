@@ -1,4 +1,6 @@
 // A whole mode, run on any switch.
+#![tactic(auto)]
+
 ghost use Rattle.std.specs.Prelude.{◌≡◌, ℕ, ◌<◌, true, length, None, slice_index_or};
 ghost use Rattle.schedule.specs.Modes.{Sound};
 ghost use Rattle.switch.specs.Meaning.{is_open};
@@ -16,8 +18,8 @@ fn grant_row<S: Switch>(
     token: &OpenMode,
     row: &[Option<Join>; 16],
 ) -> Result<(), DriverDecline>
-    requires { Fresh token.now.dwell (meaning s.old) }
-    ensures { GrantsRow (mode_with token.now.dwell row.now) (meaning s.old) (meaning s.new) result }
+    requires { Fresh token.now.dwell (S.meaning s.old) }
+    ensures { GrantsRow (mode_with token.now.dwell row.now) (S.meaning s.old) (S.meaning s.new) result }
 {
     for i in 0..16 {
         if let Some(join) = row[i] {
@@ -30,7 +32,7 @@ fn grant_row<S: Switch>(
 // What each uplink did in the last run.
 fn last_run<S: Switch>(s: &S) -> [Option<Outcome>; 16]
     ensures sixteen { length result ≡ 16 }
-    ensures each { (i : ℕ) → i < 16 → slice_index_or result i None ≡ seen (meaning s.now) i }
+    ensures each { (i : ℕ) → i < 16 → slice_index_or result i None ≡ seen (S.meaning s.now) i }
 {
     let mut all: [Option<Outcome>; 16] = [None; 16];
     for i in 0..16 {
@@ -44,8 +46,8 @@ fn last_run<S: Switch>(s: &S) -> [Option<Outcome>; 16]
 
 // Runs the open mode, and answers what its grants carried.
 fn finish<S: Switch>(s: &mut S, token: OpenMode) -> [Option<Outcome>; 16]
-    requires { Ready (meaning s.old) }
-    ensures { RanWith result (meaning s.old) (meaning s.new) }
+    requires { Ready (S.meaning s.old) }
+    ensures { RanWith result (S.meaning s.old) (S.meaning s.new) }
 {
     match driver::run(s, token) {
         Ok(()) => last_run(s),
@@ -55,8 +57,8 @@ fn finish<S: Switch>(s: &mut S, token: OpenMode) -> [Option<Outcome>; 16]
 
 // Voids the open mode.
 fn give_up<S: Switch>(s: &mut S, token: OpenMode)
-    requires { is_open (meaning s.old).mode ≡ true }
-    ensures { meaning s.new ≡ voids (meaning s.old) }
+    requires { is_open (S.meaning s.old).mode ≡ true }
+    ensures { S.meaning s.new ≡ voids (S.meaning s.old) }
 {
     match driver::void(s, token) {
         Ok(()) => {}
@@ -66,8 +68,8 @@ fn give_up<S: Switch>(s: &mut S, token: OpenMode)
 
 // Opens a mode, makes its grants by rising uplink and runs it. Where a grant is declined, the mode is voided.
 pub fn run_mode<S: Switch>(s: &mut S, mode: &Mode) -> Result<[Option<Outcome>; 16], DriverDecline>
-    ensures whole { Whole mode.now (meaning s.old) (meaning s.new) result }
-    ensures sound { Sound (meaning s.old).lines mode.now → Runs mode.now (meaning s.old) (meaning s.new) result }
+    ensures whole { Whole mode.now (S.meaning s.old) (S.meaning s.new) result }
+    ensures sound { Sound (S.meaning s.old).lines mode.now → Runs mode.now (S.meaning s.old) (S.meaning s.new) result }
 {
     let token = driver::open(s, mode.dwell)?;
     match grant_row(s, &token, &mode.row) {

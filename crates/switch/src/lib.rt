@@ -1,4 +1,6 @@
 // A switch by its meaning: what each call does, and when it is declined.
+#![tactic(auto)]
+
 ghost use Rattle.std.specs.Prelude.{◌≡◌};
 ghost use Rattle.lines.specs.Verdicts.{answered, or_same};
 ghost use Rattle.switch.specs.Meaning.{Meaning, Sound};

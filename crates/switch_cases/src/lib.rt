@@ -1,4 +1,6 @@
 // Cases of the switches, the driver and the whole mode, run.
+#![tactic(auto)]
+
 #[cfg(test)]
 mod driven;
 #[cfg(test)]

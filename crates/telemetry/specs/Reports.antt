@@ -1,5 +1,5 @@
 -- What a telemetry switch carries. Assumes nothing.
-use Rattle.std.specs.Prelude.{ℕ, ◌+◌, ◌-◌, ◌*◌, ◌/◌, ◌%◌, min, cond, List, length, Some, None, Option, ◌==◌, nat_le, nat_lt}
+use Rattle.std.specs.Prelude.{ℕ, ◌+◌, ◌-◌, ◌*◌, min, cond, List, length, Some, None, Option, ◌==◌, nat_le, nat_lt}
 use Rattle.records.specs.declared.record.Entry.{Entry}
 use Rattle.records.specs.Layout.{entry_at}
 use Rattle.records.specs.Reader.{part}

@@ -1,4 +1,6 @@
 // A switch that carries what a file of mode records reports.
+#![tactic(auto)]
+
 mod carrying;
 mod decline;
 mod making;

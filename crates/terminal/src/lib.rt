@@ -1,4 +1,6 @@
 // A script that comes in byte by byte.
+#![tactic(auto)]
+
 ghost use Rattle.std.specs.Prelude.{◌≡◌, ℕ, true, false, List, [], ◌∷◌, ◌++◌, ◌≢◌};
 ghost use Rattle.line_input.specs.Kept.{is_empty};
 ghost use Rattle.line_input.specs.Lines.{Holds};

@@ -1,4 +1,6 @@
 // The worked cases of the rules, proved for the definitions that the contracts use.
+#![tactic(auto)]
+
 ghost use Rattle.std.specs.Prelude.{◌≡◌, true, Err};
 ghost use Rattle.lines.specs.declared.Line.TheVariants.{Up};
 ghost use Rattle.lines.specs.Matrix.{uplink};

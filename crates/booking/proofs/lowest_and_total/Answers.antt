@@ -13,7 +13,7 @@ pub loop-i-preserved : goal.loop-i-preserved
 loop-i-preserved c =
     let f = missing_at c.args.outcomes.now in
     let x = c.from-total.result in
-    let here = c.from-total.ensures ∙ c.missing-of-missing.ensures in
+    let here = c.from-total.ensures ∙ c.missing_of-missing.ensures in
     elim c.if-first-i.branch [
       | then-first-i+then-missing-eq0 v ↦ subst (λ (k : ℕ). Seen f (c.loop-i.i + 1) k (c.loop-i.total + x)) (sym v.first-is) (seen_past c.loop-i.invariant x here (omega arith) (omega arith) (omega arith))
       | else-first-i v ↦ subst (λ (k : ℕ). Seen f (c.loop-i.i + 1) k (c.loop-i.total + x)) (sym v.first-is) (seen_here c.loop-i.invariant x here (omega arith) (λ q z. not_both v.else-first-i.either q (sym c.from-total.ensures ∙ z)))

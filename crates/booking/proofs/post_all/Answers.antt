@@ -23,5 +23,5 @@ pub returns : goal.returns
 returns c =
     let bytes = c.args.bytes.now in
     let w = c.loop-x.invariant.2 in
-    let end = read_none c.loop-x.k (how_many bytes) (reservation_at bytes c.loop-x.k) c.in-default.ensures in
+    let end = read_none c.loop-x.k (how_many bytes) (reservation_at bytes c.loop-x.k) c.in_default.ensures in
     record { free = batched_free _ bytes _ _ _ w end; lines = c.loop-x.invariant.1; units = batched_sums _ bytes _ _ _ w end }

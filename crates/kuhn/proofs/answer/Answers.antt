@@ -12,9 +12,9 @@ returns-then-not-augment c =
     let hs = c.loop-up.pairing.holders in
     let idle : Idle hs up = c.loop-up.invariant.2 up (omega arith) (omega arith) in
     let f = c.augment.ensures.failed (omega arith) idle c.if-not-augment.true in
-    let P : List ℕ → Type 0 = λ x. Stuck x up c.augment.new.tried c.stuck-with.result in
-    stuck_witness c.args.n c.args.rows c.within-cut.result hs up c.augment.new.tried c.stuck-with.result
-    c.requires c.within-cut.ensures c.loop-up.invariant.0 c.loop-up.pairing.apart c.loop-up-test.true idle f.0 (subst P f.1 c.stuck-with.ensures)
+    let P : List ℕ → Type 0 = λ x. Stuck x up c.augment.new.tried c.stuck_with.result in
+    stuck_witness c.args.n c.args.rows c.within-cut.result hs up c.augment.new.tried c.stuck_with.result
+    c.requires c.within-cut.ensures c.loop-up.invariant.0 c.loop-up.pairing.apart c.loop-up-test.true idle f.0 (subst P f.1 c.stuck_with.ensures)
 
 pub loop-up-preserved : goal.loop-up-preserved
 loop-up-preserved c =

@@ -18,7 +18,7 @@ pub returns-in-Run : goal.returns-in-Run
 returns-in-Run g c = acted c.args.out.now c.in-Run.is c.run.ensures
 
 pub returns-in-Drop : goal.returns-in-Drop
-returns-in-Drop g c = acted c.args.out.now c.in-Drop.is c.drop-plan.ensures
+returns-in-Drop g c = acted c.args.out.now c.in-Drop.is c.drop_plan.ensures
 
 pub returns-in-Owed : goal.returns-in-Owed
 returns-in-Owed g c = acted c.args.out.now c.in-Owed.is c.owed.ensures
@@ -30,7 +30,7 @@ pub returns-in-ModesLeft : goal.returns-in-ModesLeft
 returns-in-ModesLeft g c = acted c.args.out.now c.in-ModesLeft.is c.modes_left.ensures
 
 pub returns-in-LengthLeft : goal.returns-in-LengthLeft
-returns-in-LengthLeft g c = acted c.args.out.now c.in-LengthLeft.is c.length-left.ensures
+returns-in-LengthLeft g c = acted c.args.out.now c.in-LengthLeft.is c.length_left.ensures
 
 pub returns-in-Batch : goal.returns-in-Batch
 returns-in-Batch g c = batched _ c.in-Batch.bytes c.args.out.now c.in-Batch.is refl c.batch.ensures

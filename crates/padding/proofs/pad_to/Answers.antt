@@ -10,17 +10,17 @@ use Rattle.padding.proofs.Padding.{padding}
 use Rattle.padding.proofs.pad_to.Goals as goal
 
 pub loop-i-init : goal.loop-i-init
-loop-i-init c = (start _ _ _ _ _ c.rows-rows.ensures c.down-lacks-lacks.ensures, omega arith)
+loop-i-init c = (start _ _ _ _ _ c.rows-rows.ensures c.down_lacks-lacks.ensures, omega arith)
 
-pub pad-row-requires : goal.pad-row-requires
-pad-row-requires c = record {
+pub pad_row-requires : goal.pad_row-requires
+pad_row-requires c = record {
   size = omega arith;
   small = λ k lk. omega (arith, c.loop-i.invariant.0.rest c.loop-i.i k (omega arith), term_le_sum (lines_of c.args.owed.now) (units_of c.args.owed.now c.loop-i.i) k (omega arith), up_le_busiest (lines_of c.args.owed.now) (units_of c.args.owed.now) c.loop-i.i (omega arith), c.lack-up.ensures, c.requires);
 }
 
 pub loop-i-preserved : goal.loop-i-preserved
 loop-i-preserved c = (
-  row_visited (lines_of c.args.owed.now) c.args.b (units_of c.args.owed.now) (cells c.loop-i.rows) _ (listed c.loop-i.lacks) _ c.loop-i.i c.lines-n.result c.lack-up.result _ c.loop-i.invariant.0 c.lines-n.ensures c.lack-up.ensures c.pad-row.ensures
+  row_visited (lines_of c.args.owed.now) c.args.b (units_of c.args.owed.now) (cells c.loop-i.rows) _ (listed c.loop-i.lacks) _ c.loop-i.i c.lines-n.result c.lack-up.result _ c.loop-i.invariant.0 c.lines-n.ensures c.lack-up.ensures c.pad_row.ensures
       (λ y. row_set c.loop-i.rows _ c.loop-i.i y (omega arith))
       (λ x y ne. row_kept c.loop-i.rows _ c.loop-i.i x y ne),
   length-set c.loop-i.rows c.loop-i.i _ ∙ c.loop-i.invariant.1,

@@ -7,12 +7,12 @@ use Rattle.schedule.proofs.Unfolded.{unfolds}
 use Rattle.schedule.proofs.Lengths.{idle, span_more, span_all, in_32, past_32}
 use Rattle.schedule.proofs.add_up.Goals as goal
 
-pub returns-in-err-total : goal.returns-in-err-total
-returns-in-err-total c =
+pub returns-in_err-total : goal.returns-in_err-total
+returns-in_err-total c =
     let read : c.from.result ≡ (get_or c.args.modes.now c.loop-mode.mode-index idle).dwell = search (rules, get_or_read) in
     let rest = span_more c.args.modes.now c.loop-mode.mode-index (omega arith) in
     record {
-      sum = c.from-residual.ensures ∙ sym (past_32 (c.args.start + span c.args.modes.now) (omega arith));
+      sum = c.from_residual.ensures ∙ sym (past_32 (c.args.start + span c.args.modes.now) (omega arith));
       no_shorter = no_shorter;
       no_shorter_shop = no_shorter_shop;
       no_shorter_parts = no_shorter_parts;
@@ -23,8 +23,8 @@ pub loop-mode-preserved : goal.loop-mode-preserved
 loop-mode-preserved c =
     let read : c.from.result ≡ (get_or c.args.modes.now c.loop-mode.mode-index idle).dwell = search (rules, get_or_read) in
     let rest = span_more c.args.modes.now c.loop-mode.mode-index (omega arith) in
-    let total = c.in-ok-total.ensures.1 in
-    (omega (arith, c.in-ok-total.ensures.0), omega arith)
+    let total = c.in_ok-total.ensures.1 in
+    (omega (arith, c.in_ok-total.ensures.0), omega arith)
 
 pub returns : goal.returns
 returns c =

@@ -1,4 +1,4 @@
 use Rattle.schedule.proofs.keeps_grant.Goals as goal
 
-pub returns-then-fits-mode : goal.returns-then-fits-mode
-returns-then-fits-mode c = ((λ e. record { fits = c.fits-mode.ensures.0 c.if-fits-mode.true; free = c.is-free.ensures.0 e }), λ k. c.is-free.ensures.1 k.free)
+pub returns-then-fits_mode : goal.returns-then-fits_mode
+returns-then-fits_mode c = ((λ e. record { fits = c.fits_mode.ensures.0 c.if-fits_mode.true; free = c.is_free.ensures.0 e }), λ k. c.is_free.ensures.1 k.free)

@@ -1,7 +1,6 @@
-use Rattle.std.proofs.Common.{◌≡◌, length, get_or, None, sym, ap, ◌∙◌, subst, inl, inr, arith, rules}
+use Rattle.std.proofs.Common.{◌≡◌, length, None, sym, ◌∙◌, inl, inr, arith, rules}
 use Rattle.std.proofs.lemmas.List.{get_or_past}
 use Rattle.std.proofs.lemmas.Bool.{cases_lt}
-use Rattle.switch.specs.Calls.{CarriesAt}
 use Rattle.crossbar.proofs.Outcomes.{outcomes_all}
 use Rattle.crossbar.proofs.carry.outcomes.Goals as goal
 

@@ -1,4 +1,4 @@
-use Rattle.std.proofs.Common.{◌≡◌, ℕ, List, [], length, get_or, replicate, refl, ap, ◌∙◌}
+use Rattle.std.proofs.Common.{◌≡◌, ℕ, List, [], length, get_or, replicate, refl, ap}
 use Rattle.std.proofs.lemmas.List.{get_or-replicate}
 use Rattle.crossbar.proofs.Rows.{all_replicate}
 use Rattle.crossbar.proofs.make.no_units.Goals as goal

@@ -1,4 +1,4 @@
-use Rattle.std.proofs.Common.{◌≡◌, true, false, get_or, Some, None, sym, refl, ap, ◌∙◌, arith, rules}
+use Rattle.std.proofs.Common.{◌≡◌, false, get_or, None, sym, ap, ◌∙◌, arith, rules}
 use Rattle.switch.specs.Calls.{joined_to}
 use Rattle.crossbar.proofs.Rows.{taken_here, taken_later, taken_none}
 use Rattle.crossbar.proofs.rules.is_taken.Goals as goal

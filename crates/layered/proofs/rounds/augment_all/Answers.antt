@@ -2,7 +2,7 @@ use Rattle.std.proofs.Common.{◌≡◌, ℕ, ◌+◌, List, sym, ap, ◌∙◌,
 use Rattle.std.proofs.lemmas.Bool.{cases_Bool}
 use Rattle.layered.proofs.Gains.{Turn, turn_start, still_idle, turn_skip, turn_found, turn_failed, round_end}
 use Rattle.layered.proofs.rounds.augment_all.Goals as goal
-use Rattle.layered.proofs.rounds.augment_all.Goals.{then-has-line, else-has-line}
+use Rattle.layered.proofs.rounds.augment_all.Goals.{then-has_line, else-has_line}
 
 pub loop-up-init : goal.loop-up-init
 loop-up-init c = turn_start c.args.steps.now c.args.pairing.now.holders c.args.roots
@@ -15,11 +15,11 @@ loop-up-preserved c =
     let roots = c.args.roots in
     let up = c.loop-up.up in
     let To : List ℕ → ℕ → Type 0 = λ x y. Turn steps hs x roots (up + 1) y in
-    let to : (x : List ℕ) (y : ℕ) → c.if-has-line.pairing.holders ≡ x → c.if-has-line.tried ≡ y → To x y → To c.if-has-line.pairing.holders c.if-has-line.tried =
-    λ x y p q s. (let P : List ℕ → Type 0 = λ z. To z c.if-has-line.tried in let Q : ℕ → Type 0 = λ z. To x z in subst P (sym p) (subst Q (sym q) s)) in
-    elim c.if-has-line.branch [
-      | then-has-line w ↦
-          let is = sym c.has-line.ensures ∙ w.if-has-line.true in
+    let to : (x : List ℕ) (y : ℕ) → c.if-has_line.pairing.holders ≡ x → c.if-has_line.tried ≡ y → To x y → To c.if-has_line.pairing.holders c.if-has_line.tried =
+    λ x y p q s. (let P : List ℕ → Type 0 = λ z. To z c.if-has_line.tried in let Q : ℕ → Type 0 = λ z. To x z in subst P (sym p) (subst Q (sym q) s)) in
+    elim c.if-has_line.branch [
+      | then-has_line w ↦
+          let is = sym c.has_line.ensures ∙ w.if-has_line.true in
           let idle = still_idle steps hs hs1 roots up c.loop-up.tried (omega arith) c.requires.roots is c.loop-up.invariant in
           let hs2 = w.augment.new.self.holders in
           let t2 = w.augment.new.tried in
@@ -31,9 +31,9 @@ loop-up-preserved c =
                 let f = w.augment.ensures.failed (omega arith) idle not_found in
                 to hs1 t2 (ap (λ p. p.holders) w.pairing-is ∙ f.1) w.tried-is (turn_failed steps hs hs1 roots up c.loop-up.tried t2 f.0 c.loop-up.invariant)
           ]
-      | else-has-line w ↦
+      | else-has_line w ↦
           to hs1 c.loop-up.tried (ap (λ p. p.holders) w.pairing-is) w.tried-is
-          (turn_skip steps hs hs1 roots up c.loop-up.tried (sym c.has-line.ensures ∙ w.if-has-line.false) c.loop-up.invariant)
+          (turn_skip steps hs hs1 roots up c.loop-up.tried (sym c.has_line.ensures ∙ w.if-has_line.false) c.loop-up.invariant)
     ]
 
 pub returns : goal.returns

@@ -5,5 +5,5 @@ use Rattle.layered.proofs.rounds.still_idle.Goals as goal
 
 pub returns : goal.returns
 returns c =
-    left_over c.args.pairing.now.holders c.args.ups c.lines-below.result c.holders-of.result c.without.result c.lines-below.ensures c.holders-of.ensures.from c.holders-of.ensures.all
+    left_over c.args.pairing.now.holders c.args.ups c.lines_below.result c.holders_of.result c.without.result c.lines_below.ensures c.holders_of.ensures.from c.holders_of.ensures.all
     c.without.ensures (λ u h. has_below 16 c.args.ups u (omega arith) h)

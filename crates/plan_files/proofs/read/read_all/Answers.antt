@@ -11,12 +11,12 @@ use Rattle.plan_files.proofs.read.read_all.Goals as goal
 pub loop-record-init : goal.loop-record-init
 loop-record-init c = ((λ h l. absurd (omega arith)), c.new-modes.ensures.items ∙ sym (modes_none c.args.file.now), omega arith)
 
-pub returns-in-default-fitting-mode : goal.returns-in-default-fitting-mode
-returns-in-default-fitting-mode c = (
+pub returns-in_default-fitting_mode : goal.returns-in_default-fitting_mode
+returns-in_default-fitting_mode c = (
   c.requires.whole,
   subst (λ (n : ℕ). FirstUnfit n c.args.file.now c.loop-record.k) c.requires.lines (record {
     there = omega (arith, c.in-Some.ensures.there);
-    unfit = λ fits. c.in-default-fitting-mode.ensures (rw c.in-Some.ensures.bytes fits);
+    unfit = λ fits. c.in_default-fitting_mode.ensures (rw c.in-Some.ensures.bytes fits);
     before = c.loop-record.invariant.0;
   }),
 )
@@ -24,11 +24,11 @@ returns-in-default-fitting-mode c = (
 pub loop-record-preserved : goal.loop-record-preserved
 loop-record-preserved c =
     let bytes : bytes_of c.in-Some.record ≡ part c.args.file.now c.loop-record.k = c.in-Some.ensures.bytes in
-    let fits = c.in-Some-fitting-mode.ensures.0 in (
+    let fits = c.in-Some-fitting_mode.ensures.0 in (
       below_more _ _ c.loop-record.invariant.0 (rw bytes at fits),
       c.in-Ok.ensures.items
-          ∙ ap (λ (ms : List Mode). ms ++ c.in-Some-fitting-mode.mode ∷ []) c.loop-record.invariant.1
-          ∙ ap (λ (m : Mode). modes_below c.loop-record.k c.args.file.now ++ m ∷ []) (c.in-Some-fitting-mode.ensures.1 ∙ ap mode_of bytes)
+          ∙ ap (λ (ms : List Mode). ms ++ c.in-Some-fitting_mode.mode ∷ []) c.loop-record.invariant.1
+          ∙ ap (λ (m : Mode). modes_below c.loop-record.k c.args.file.now ++ m ∷ []) (c.in-Some-fitting_mode.ensures.1 ∙ ap mode_of bytes)
           ∙ sym (modes_more c.loop-record.k c.args.file.now),
       omega (arith, c.in-Some.ensures.there),
     )
@@ -36,7 +36,7 @@ loop-record-preserved c =
 pub returns : goal.returns
 returns c =
     let all : c.loop-record.k ≡ count c.args.file.now =
-    elim (cases_lt c.loop-record.k (count c.args.file.now)) [ inl l ↦ absurd (c.in-default.ensures (omega arith)) | inr g ↦ omega (arith, c.loop-record.invariant.2) ] in (
+    elim (cases_lt c.loop-record.k (count c.args.file.now)) [ inl l ↦ absurd (c.in_default.ensures (omega arith)) | inr g ↦ omega (arith, c.loop-record.invariant.2) ] in (
       subst (λ (n : ℕ). AllFit n (count c.args.file.now) c.args.file.now) c.requires.lines (λ h l. c.loop-record.invariant.0 h (omega arith)),
       c.loop-record.invariant.1 ∙ ap (λ (k : ℕ). modes_below k c.args.file.now) all,
     )

@@ -11,12 +11,12 @@ pub loop-i-preserved : goal.loop-i-preserved
 loop-i-preserved c =
     let size : length c.args.mode.now.row ≡ 16 = search rules in
     let less : c.loop-i.i < length c.args.mode.now.row = omega arith in
-    let is = c.copy-from-slice.ensures.after ∙ c.entry-bytes-part.ensures in
-    let three : length c.copy-from-slice.new.self ≡ 3 = ap length is ∙ grant_size (grant_of c.args.mode.now c.loop-i.i) in
+    let is = c.copy_from_slice.ensures.after ∙ c.entry_bytes-part.ensures in
+    let three : length c.copy_from_slice.new.self ≡ 3 = ap length is ∙ grant_size (grant_of c.args.mode.now c.loop-i.i) in
     let fits : 4 + 3 * c.loop-i.i ≤ length c.loop-i.bytes = omega arith in
-    let ends : 4 + 3 * (c.loop-i.i + 1) ≡ 4 + 3 * c.loop-i.i + length c.copy-from-slice.new.self = omega arith in (
+    let ends : 4 + 3 * (c.loop-i.i + 1) ≡ 4 + 3 * c.loop-i.i + length c.copy_from_slice.new.self = omega arith in (
       search (rules, places),
-      one_more grant_bytes (header c.args.lines c.args.mode.now) c.args.mode.now.row None c.loop-i.i _ _ _ c.loop-i.bytes c.copy-from-slice.new.self less c.loop-i.invariant.1 is fits ends,
+      one_more grant_bytes (header c.args.lines c.args.mode.now) c.args.mode.now.row None c.loop-i.i _ _ _ c.loop-i.bytes c.copy_from_slice.new.self less c.loop-i.invariant.1 is fits ends,
       λ _. size,
     )
 

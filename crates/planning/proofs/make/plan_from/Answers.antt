@@ -4,7 +4,6 @@ use Rattle.owed.specs.declared.matrix.Owed.{Owed}
 use Rattle.owed.specs.Calls.{lines_of, units_of}
 use Rattle.padding.specs.Padding.{Padding}
 use Rattle.planning.specs.Making.{MadeBy}
-use Rattle.planning.specs.Kept.{Kept}
 use Rattle.planning.proofs.Hall.{no_witness}
 use Rattle.planning.proofs.Serving.{Fit, best}
 use Rattle.planning.proofs.Keeping.{kept}
@@ -25,27 +24,39 @@ ask-mates-requires g c = record {
   even = c.loop-left.invariant.even;
 }
 
-pub overflow-sub-left : goal.overflow-sub-left
-overflow-sub-left g c = omega (arith, c.from-left.ensures, turn_fits g.E.Engine.may g.met.E.Engine.right c.lines-n.result (units_of c.args.owed.now) (cells c.loop-left.padded) (cells c.loop-left.unplanned) (cells c.mode-for-mode.new.padded) (cells c.mode-for-mode.new.unplanned) c.loop-left.left (vec_items c.loop-left.modes) c.ask-mates.result c.mode-for-mode.result (omega arith) (omega arith) (omega arith) c.ask-mates.ensures.asked c.mode-for-mode.ensures c.loop-left.invariant)
+pub overflow_sub-left : goal.overflow_sub-left
+overflow_sub-left g c = omega (arith, c.from-left.ensures, turn_fits g.E.Engine.may g.met.E.Engine.right c.lines-n.result (units_of c.args.owed.now) (cells c.loop-left.padded) (cells c.loop-left.unplanned) (cells c.mode_for-mode.new.padded) (cells c.mode_for-mode.new.unplanned) c.loop-left.left (vec_items c.loop-left.modes) c.ask-mates.result c.mode_for-mode.result (omega arith) (omega arith) (omega arith) c.ask-mates.ensures.asked c.mode_for-mode.ensures c.loop-left.invariant)
 
 pub loop-left-smaller : goal.loop-left-smaller
-loop-left-smaller g c = omega (arith, c.from-left.ensures, turn_lasts g.E.Engine.may g.met.E.Engine.right c.lines-n.result (units_of c.args.owed.now) (cells c.loop-left.padded) (cells c.loop-left.unplanned) (cells c.mode-for-mode.new.padded) (cells c.mode-for-mode.new.unplanned) c.loop-left.left (vec_items c.loop-left.modes) c.ask-mates.result c.mode-for-mode.result (omega arith) (omega arith) (omega arith) c.ask-mates.ensures.asked c.mode-for-mode.ensures c.loop-left.invariant)
+loop-left-smaller g c = omega (arith, c.from-left.ensures, turn_lasts g.E.Engine.may g.met.E.Engine.right c.lines-n.result (units_of c.args.owed.now) (cells c.loop-left.padded) (cells c.loop-left.unplanned) (cells c.mode_for-mode.new.padded) (cells c.mode_for-mode.new.unplanned) c.loop-left.left (vec_items c.loop-left.modes) c.ask-mates.result c.mode_for-mode.result (omega arith) (omega arith) (omega arith) c.ask-mates.ensures.asked c.mode_for-mode.ensures c.loop-left.invariant)
 
 pub loop-left-preserved : goal.loop-left-preserved
 loop-left-preserved g c =
-    goes_on g.E.Engine.may g.met.E.Engine.right c.lines-n.result (units_of c.args.owed.now) (cells c.loop-left.padded) (cells c.loop-left.unplanned) (cells c.mode-for-mode.new.padded) (cells c.mode-for-mode.new.unplanned) c.loop-left.left (vec_items c.loop-left.modes) c.ask-mates.result c.mode-for-mode.result (omega arith) (omega arith) (omega arith) c.ask-mates.ensures.asked c.mode-for-mode.ensures c.loop-left.invariant
-    c.from-left.result (vec_items c.push.new.self) c.from-left.ensures c.in-ok-push.ensures.items
+    goes_on g.E.Engine.may g.met.E.Engine.right c.lines-n.result (units_of c.args.owed.now) (cells c.loop-left.padded) (cells c.loop-left.unplanned) (cells c.mode_for-mode.new.padded) (cells c.mode_for-mode.new.unplanned) c.loop-left.left (vec_items c.loop-left.modes) c.ask-mates.result c.mode_for-mode.result (omega arith) (omega arith) (omega arith) c.ask-mates.ensures.asked c.mode_for-mode.ensures c.loop-left.invariant
+    c.from-left.result (vec_items c.push.new.self) c.from-left.ensures c.in_ok-push.ensures.items
 
 fits : (owed : Owed) (n : ℕ) → n ≡ lines_of owed → 0 < busiest (lines_of owed) (units_of owed) → Fit n (units_of owed)
 fits owed n is owes = rw is (record { some = omega arith; few = omega arith; owes = owes; short = omega arith })
 
-pub invariant-of-result : goal.invariant-of-result
-invariant-of-result g c =
+pub invariant_of-result : goal.invariant_of-result
+invariant_of-result g c =
     let n = c.lines-n.result in
     let m = units_of c.args.owed.now in
     let made = gone g.E.Engine.may n m (cells c.loop-left.padded) (cells c.loop-left.unplanned) c.loop-left.left (vec_items c.loop-left.modes) (omega arith) c.loop-left.invariant in
     let k = kept g.E.Engine.may g.met.E.Engine.right n c.busiest-length.result m (vec_items c.loop-left.modes) (fits c.args.owed.now n c.lines-n.ensures c.requires.owes) (c.busiest-length.ensures ∙ ap (λ n. busiest n m) (sym c.lines-n.ensures)) made in
-    (k.some_line, (k.few_lines, (k.some_mode, (k.few_modes, (k.dwells, (k.lines, (k.units, (k.single, (k.rows, (k.total, (k.short, tt)))))))))))
+    record {
+      some_line = k.some_line;
+      few_lines = k.few_lines;
+      some_mode = k.some_mode;
+      few_modes = k.few_modes;
+      dwells = k.dwells;
+      fits = k.lines;
+      units = k.units;
+      single = k.single;
+      rows = k.rows;
+      total = k.total;
+      short = k.short;
+    }
 
 pub returns : goal.returns
 returns g c =

@@ -1,4 +1,4 @@
-use Rattle.std.proofs.Common.{◌≡◌, ℕ, suc, ◌*◌, ◌^◌, ◌≤◌, Bool, ltb, ◌⊎◌, get_or, sym, refl, ap, ◌∙◌, inl, inr, arith}
+use Rattle.std.proofs.Common.{ℕ, suc, ◌*◌, ◌^◌, Bool, ltb, get_or, ap, inl, inr, arith}
 use Rattle.std.proofs.lemmas.Nat.{one_shl, pow_below}
 use Rattle.std.proofs.lemmas.Bool.{cases_eq, lt-ltb, le-ltb}
 use Rattle.planning.proofs.Bits.{bits_small, bits_next}
@@ -6,8 +6,8 @@ use Rattle.planning.proofs.Rounds.{one_yes, one_no}
 use Rattle.planning.proofs.modes.support_row.Goals as goal
 use Rattle.planning.proofs.modes.support_row.Goals.{then-row-j-gt0, else-row-j-gt0}
 
-pub overflow-add-bits : goal.overflow-add-bits
-overflow-add-bits c =
+pub overflow_add-bits : goal.overflow_add-bits
+overflow_add-bits c =
     let j : ℕ = c.loop-j.j in
     let small = bits_small j (λ j. ltb 0 (get_or c.args.row.now j 0)) in
     elim (cases_eq j 15) [

@@ -1,4 +1,4 @@
-use Rattle.std.proofs.Common.{◌≡◌, ◌<◌, ◌≢◌, length, None, ap, ◌∙◌, arith, length-set, get_or-set_other, get_or-set_same, below_more}
+use Rattle.std.proofs.Common.{◌<◌, ◌≢◌, length, None, ap, ◌∙◌, arith, length-set, get_or-set_other, get_or-set_same, below_more}
 use Rattle.std.proofs.lemmas.List.FromFn.{fill_by_all}
 use Rattle.records.specs.Layout.{entry_at, grant_in, row_in}
 use Rattle.records.proofs.record.grants_in.Goals as goal
@@ -9,7 +9,7 @@ loop-i-preserved c =
       length-set c.loop-i.row c.loop-i.i _ ∙ c.loop-i.invariant.0,
       below_more _ _
           (λ k h. let ne : k ≢ c.loop-i.i = omega arith in get_or-set_other c.loop-i.row c.loop-i.i k _ None ne ∙ c.loop-i.invariant.1 k h)
-          (get_or-set_same c.loop-i.row c.loop-i.i _ None inside ∙ c.grant.ensures ∙ ap grant_in c.entry-in.ensures),
+          (get_or-set_same c.loop-i.row c.loop-i.i _ None inside ∙ c.grant.ensures ∙ ap grant_in c.entry_in.ensures),
     )
 
 pub returns : goal.returns

@@ -9,17 +9,17 @@ pub loop-b-preserved : goal.loop-b-preserved
 loop-b-preserved c =
     let w : List ℕ = c.args.word.now in
     let i : ℕ = c.loop-b.b-index in
-    let digit = c.if-not-is-ascii-digit.ensures in (
+    let digit = c.if-not-is_ascii_digit.ensures in (
       sym (at_drop_more (read_on c.loop-b.n) w i 0 (omega arith)) ∙ c.loop-b.invariant.0,
       sym (at_drop_more all_digits w i 0 (omega arith) ∙ ap (λ (t : Bool). t && all_digits (drop (i + 1) w)) (sym digit.value)) ∙ c.loop-b.invariant.1,
       power i c.loop-b.n (get_or w i 0 - 48) c.loop-b.invariant.2 (omega (arith, digit.cases)),
     )
 
-pub returns-then-not-is-ascii-digit : goal.returns-then-not-is-ascii-digit
-returns-then-not-is-ascii-digit c =
+pub returns-then-not-is_ascii_digit : goal.returns-then-not-is_ascii_digit
+returns-then-not-is_ascii_digit c =
     let w : List ℕ = c.args.word.now in
     let i : ℕ = c.loop-b.b-index in
-    let digit = c.if-not-is-ascii-digit.ensures in
+    let digit = c.if-not-is_ascii_digit.ensures in
     sym c.loop-b.invariant.1 ∙ at_drop_more all_digits w i 0 (omega arith) ∙ and_left (is_digit (get_or w i 0)) (all_digits (drop (i + 1) w)) (sym digit.value)
 
 pub returns : goal.returns

@@ -1,9 +1,9 @@
-use Rattle.std.proofs.Common.{◌<◌, ◌≤◌, get_or, None, refl, arith, rules}
+use Rattle.std.proofs.Common.{◌≤◌, get_or, None, refl, arith, rules}
 use Rattle.crossbar.proofs.Outcomes.{down_in, units_in, under_way_in}
 use Rattle.crossbar.proofs.fabric.Fabric.close.Goals as goal
 
-pub add-outcomes-requires : goal.add-outcomes-requires
-add-outcomes-requires c =
+pub add_outcomes-requires : goal.add_outcomes-requires
+add_outcomes-requires c =
     let s = c.args.self.now in
     record {
       small = λ i j. omega (arith, s.carried_in_time i j, s.time_left);
@@ -11,8 +11,17 @@ add-outcomes-requires c =
       rows = s.rows;
     }
 
-pub invariant-of-self : goal.invariant-of-self
-invariant-of-self c =
+pub invariant_of-self : goal.invariant_of-self
+invariant_of-self c =
     let s = c.args.self.now in
     let fits : c.args.dwell ≤ 65535 = search rules in
-    (s.some_line, (s.few_lines, (omega (arith, s.time_left, under_way_in s.mode c.requires.stands, fits), (c.add-outcomes.ensures.rows, ((λ i j. omega (arith, c.add-outcomes.ensures.each i j, s.carried_in_time i j, units_in s.mode i j (get_or c.args.all i None) c.requires.stands (c.requires.carry i), s.units_kept i)), ((λ i. omega arith), ((λ i. omega arith), (refl, tt))))))))
+    record {
+      some_line = s.some_line;
+      few_lines = s.few_lines;
+      time_left = omega (arith, s.time_left, under_way_in s.mode c.requires.stands, fits);
+      rows = c.add_outcomes.ensures.rows;
+      carried_in_time = λ i j. omega (arith, c.add_outcomes.ensures.each i j, s.carried_in_time i j, units_in s.mode i j (get_or c.args.all i None) c.requires.stands (c.requires.carry i), s.units_kept i);
+      units_kept = λ i. omega arith;
+      downs_kept = λ i. omega arith;
+      row_kept = refl;
+    }

@@ -3,8 +3,8 @@ use Rattle.lines.specs.Matrix.{cells}
 use Rattle.owed.proofs.Busiest.{down_le_busiest}
 use Rattle.owed.proofs.matrix.Owed.down_load.Goals as goal
 
-pub down-sum-requires : goal.down-sum-requires
-down-sum-requires c = record { size = (omega arith, omega arith); small = omega (arith, down_le_busiest c.args.self.now.lines (cells c.args.self.now.rows) c.args.j c.requires) }
+pub down_sum-requires : goal.down_sum-requires
+down_sum-requires c = record { size = (omega arith, omega arith); small = omega (arith, down_le_busiest c.args.self.now.lines (cells c.args.self.now.rows) c.args.j c.requires) }
 
 pub returns : goal.returns
-returns c = record { sum = c.downlink_sum.ensures; small = omega (arith, down_le_busiest c.args.self.now.lines (cells c.args.self.now.rows) c.args.j c.requires) }
+returns c = record { sum = c.down_sum.ensures; small = omega (arith, down_le_busiest c.args.self.now.lines (cells c.args.self.now.rows) c.args.j c.requires) }

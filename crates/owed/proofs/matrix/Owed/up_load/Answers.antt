@@ -3,8 +3,8 @@ use Rattle.lines.specs.Matrix.{cells}
 use Rattle.owed.proofs.Busiest.{up_le_busiest}
 use Rattle.owed.proofs.matrix.Owed.up_load.Goals as goal
 
-pub up-sum-requires : goal.up-sum-requires
-up-sum-requires c = record { size = (omega arith, omega arith); small = omega (arith, up_le_busiest c.args.self.now.lines (cells c.args.self.now.rows) c.args.i c.requires) }
+pub up_sum-requires : goal.up_sum-requires
+up_sum-requires c = record { size = (omega arith, omega arith); small = omega (arith, up_le_busiest c.args.self.now.lines (cells c.args.self.now.rows) c.args.i c.requires) }
 
 pub returns : goal.returns
-returns c = record { sum = c.uplink_sum.ensures; small = omega (arith, up_le_busiest c.args.self.now.lines (cells c.args.self.now.rows) c.args.i c.requires) }
+returns c = record { sum = c.up_sum.ensures; small = omega (arith, up_le_busiest c.args.self.now.lines (cells c.args.self.now.rows) c.args.i c.requires) }

@@ -15,11 +15,11 @@ returns-in-Planned g c =
 pub returns-in-Ok : goal.returns-in-Ok
 returns-in-Ok g c =
     let r = state_of g.S.Switch.meaning c.refresh.new.self in
-    let e = c.post-batch.ensures in
+    let e = c.post_batch.ensures in
     from_same c.refresh.ensures.same (batches c.args.bytes r _ (c.refresh.ensures.plan ∙ ap standing c.in-Idle.is) e.lines (ap (λ (l : ℕ). standing_on r.«switch».lines l c.refresh.new.self.state) e.lines) refl e.units c.in-Ok.ensures.answer)
 
 pub returns-in-Err : goal.returns-in-Err
 returns-in-Err g c =
     let r = state_of g.S.Switch.meaning c.refresh.new.self in
-    let e = c.post-batch.ensures in
+    let e = c.post_batch.ensures in
     from_same c.refresh.ensures.same (batches_not c.args.bytes r _ (c.refresh.ensures.plan ∙ ap standing c.in-Idle.is) e.lines (ap (λ (l : ℕ). standing_on r.«switch».lines l c.refresh.new.self.state) e.lines) refl e.units _ c.in-Err.ensures.answer)

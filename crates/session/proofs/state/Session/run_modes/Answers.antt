@@ -58,7 +58,7 @@ returns-in-Some g c =
 
 pub loop-count-preserved : goal.loop-count-preserved
 loop-count-preserved g c =
-    (going_on c.loop-count.invariant.0 (told_by c.in-Ok.ensures) c.in-default.is (sym c.stands-in-loop-count.ensures ∙ c.if-not-stands-2.false), omega arith)
+    (going_on c.loop-count.invariant.0 (told_by c.in-Ok.ensures) c.in_default.is (sym c.stands-in-loop-count.ensures ∙ c.if-not-stands-2.false), omega arith)
 
 pub returns : goal.returns
 returns g c = record { runs = c.loop-count.invariant.0.runs; does = λ buffer. spent_so c.loop-count.invariant.0 c.args.budget buffer buffer refl (omega arith) (omega arith) }

@@ -12,11 +12,11 @@ use Rattle.session.proofs.Acting.{from_same, declines}
 use Rattle.session.proofs.Planning.{good_plan, plans_nothing, plans_not, plans}
 use Rattle.session.proofs.state.Session.take_up.Goals as goal
 
-pub invariant-of-self-in-Ok : goal.invariant-of-self-in-Ok
-invariant-of-self-in-Ok g c =
+pub invariant_of-self-in-Ok : goal.invariant_of-self-in-Ok
+invariant_of-self-in-Ok g c =
     let e = c.in-Ok.ensures in
     let k = good_plan c.refresh.new.self.owed c.in-Ok.plan c.length-length.result c.length-length.ensures e.answer.1 e.best.serves in
-    (k.next, (k.length, (k.within, (k.lines, tt))))
+    record { next = k.next; length = k.length; within = k.within; lines = k.lines }
 
 pub returns-in-Planned : goal.returns-in-Planned
 returns-in-Planned g c =

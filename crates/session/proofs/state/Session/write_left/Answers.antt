@@ -19,10 +19,10 @@ pub returns-in-Ok : goal.returns-in-Ok
 returns-in-Ok g c =
     let p = c.in-Planned in
     writes g.S.Switch.meaning c.args.self.now p.plan p.place p.left p.is (sym c.agrees.ensures ∙ c.if-not-agrees.false) c.lines.result c.lines.ensures _ (take_rest c.modes.result.now p.place ∙ ap (λ (l : List Mode). drop p.place l) c.modes.ensures)
-    c.args.out.now c.write-modes.new.out c.write-modes.ensures.after c.in-Ok.used c.in-Ok.ensures.answer
+    c.args.out.now c.write_modes.new.out c.write_modes.ensures.after c.in-Ok.used c.in-Ok.ensures.answer
 
 pub returns-in-Err : goal.returns-in-Err
 returns-in-Err g c =
     let p = c.in-Planned in
     writes_not g.S.Switch.meaning c.args.self.now p.plan p.place p.left p.is (sym c.agrees.ensures ∙ c.if-not-agrees.false) c.lines.result c.lines.ensures _ (take_rest c.modes.result.now p.place ∙ ap (λ (l : List Mode). drop p.place l) c.modes.ensures)
-    c.args.out.now c.write-modes.new.out c.write-modes.ensures.after _ c.in-Err.ensures.answer
+    c.args.out.now c.write_modes.new.out c.write_modes.ensures.after _ c.in-Err.ensures.answer

@@ -1,0 +1,23 @@
+-- `==` of two modes, and of their parts, tells whether they are the same. Assumes nothing.
+use Rattle.std.proofs.Common.{◌≡◌, Bool, List, Option, Some, None, refl, ap, arith}
+use Rattle.std.specs.Bool.{Decides}
+use Rattle.std.specs.Option.{option_eq}
+use Rattle.std.proofs.lemmas.Slice.Eq.{slice_eq-Decides}
+use Rattle.std.proofs.lemmas.Bool.Decides.{same_from_decides}
+use Rattle.schedule.specs.declared.Join.{Join}
+use Rattle.schedule.specs.Equal.{same_join, same_rows}
+
+join_told : (x y : Join) → Decides (same_join x y) (x ≡ y)
+join_told x y = grind arith
+
+grant_told : (x y : Option Join) → Decides (option_eq same_join x y) (x ≡ y)
+grant_told None None = ((λ _. refl), λ _. refl)
+grant_told None (Some y) = ((λ e. cc), λ e. cc)
+grant_told (Some x) None = ((λ e. cc), λ e. cc)
+grant_told (Some x) (Some y) =
+    let d = join_told x y in
+    ((λ e. ap Some (d.0 e)), λ e. d.1 cc)
+
+-- whatever tells whether two rows are the same is what `==` of them answers
+pub rows_told : (xs ys : List (Option Join)) (r : Bool) → Decides r (xs ≡ ys) → r ≡ same_rows xs ys
+rows_told xs ys r d = same_from_decides r (same_rows xs ys) d (slice_eq-Decides grant_told xs ys (same_rows xs ys) refl)
