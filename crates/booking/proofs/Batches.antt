@@ -8,7 +8,6 @@ use Rattle.owed.specs.declared.decline.OwedDecline.{OwedDecline}
 use Rattle.owed.specs.Calls.{add_decline, added}
 use Rattle.records.specs.declared.reservation.Reservation.{Reservation}
 use Rattle.records.specs.Reservations.{how_many, reservation_at, reservations}
-use Rattle.law.specs.declared.decline.SessionDecline.{SessionDecline}
 use Rattle.law.specs.declared.decline.SessionDecline.TheVariants.{Record}
 use Rattle.law.specs.Refusals.{records_decline}
 use Rattle.law.proofs.Said.{none_answered, some_answered}

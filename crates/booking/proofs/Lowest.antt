@@ -1,11 +1,11 @@
 -- The lowest uplink that fell short, and the units missing in all. Assumes nothing.
-use Rattle.std.proofs.Common.{◌≡◌, ℕ, zero, suc, ◌+◌, ◌*◌, ◌<◌, ◌≤◌, cond, eqb, ltb, List, get_or, Some, None, Option, sym, refl, ap, ◌∙◌, subst, add-one, arith}
+use Rattle.std.proofs.Common.{◌≡◌, ℕ, ◌+◌, ◌*◌, ◌≤◌, cond, eqb, ltb, List, get_or, Some, None, Option, refl, ap, ◌∙◌, add-one, arith}
 use Rattle.std.proofs.lemmas.Bool.Decides.{nat_tests}
 use Rattle.lines.specs.Sums.{sum_below, lowest_below}
 use Rattle.lines.proofs.Sums.{sum_next}
 use Rattle.switch.specs.declared.Outcome.{Outcome}
 use Rattle.switch.specs.Meaning.{most_lines}
-use Rattle.law.specs.Runs.{missing_at, missed, lowest_short, shortfall_at, shortfall}
+use Rattle.law.specs.Runs.{missed, lowest_short, shortfall_at, shortfall}
 use Rattle.booking.specs.Bookings.{shown_at, shown}
 
 -- what has been seen of the first i uplinks

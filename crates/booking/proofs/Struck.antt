@@ -1,9 +1,9 @@
 -- What was carried leaves the owed units, uplink by uplink. Assumes nothing.
-use Rattle.std.proofs.Common.{◌≡◌, ℕ, ◌+◌, ◌-◌, ◌<◌, ◌≤◌, List, length, get_or, Some, None, Option, sym, refl, ap, ◌∙◌, subst, inl, inr, arith}
+use Rattle.std.proofs.Common.{◌≡◌, ℕ, ◌+◌, ◌-◌, ◌<◌, ◌≤◌, List, length, get_or, Some, None, Option, refl, ap, ◌∙◌, inl, inr, arith}
 use Rattle.std.proofs.lemmas.Bool.Decides.{nat_tests}
 use Rattle.std.proofs.lemmas.Bool.{cases_lt, cases_eq}
 use Rattle.std.proofs.lemmas.List.{get_or_past}
-use Rattle.lines.specs.Matrix.{Matrix, only}
+use Rattle.lines.specs.Matrix.{Matrix}
 use Rattle.owed.specs.Calls.{taken}
 use Rattle.switch.specs.declared.Outcome.{Outcome}
 use Rattle.switch.specs.Calls.{carried_to}

@@ -1,5 +1,5 @@
 -- What follows of a whole tally. Assumes nothing.
-use Rattle.std.proofs.Common.{◌≡◌, ℕ, ◌<◌, List, Some, None, Option, sym, ◌∙◌, arith, MatchOption}
+use Rattle.std.proofs.Common.{ℕ, List, Some, None, Option, sym, ◌∙◌, arith, MatchOption}
 use Rattle.lines.specs.declared.Crosspoint.{Crosspoint}
 use Rattle.lines.specs.Matrix.{Matrix, Same}
 use Rattle.schedule.specs.Modes.{Serves}

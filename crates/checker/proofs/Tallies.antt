@@ -1,12 +1,12 @@
 -- A tally, record after record. Assumes nothing.
-use Rattle.std.proofs.Common.{◌≡◌, ℕ, zero, suc, ◌+◌, ◌<◌, ◌≤◌, List, [], ◌∷◌, ◌++◌, sym, refl, ap, ◌∙◌, arith}
+use Rattle.std.proofs.Common.{◌≡◌, ℕ, ◌+◌, ◌<◌, ◌≤◌, List, [], ◌∷◌, ◌++◌, sym, ap, ◌∙◌, arith}
 use Rattle.lines.specs.Matrix.{Matrix}
 use Rattle.schedule.specs.declared.Mode.{Mode}
 use Rattle.schedule.specs.Modes.{AllSound, span, granted, grants}
 use Rattle.schedule.proofs.Modes.{granted_within}
 use Rattle.records.specs.Layout.{mode_of, Proper}
 use Rattle.records.specs.Reader.{part}
-use Rattle.records.specs.Files.{AllProper, modes_below}
+use Rattle.records.specs.Files.{modes_below}
 use Rattle.records.proofs.Files.{modes_none, modes_more, proper_none, proper_more, all_sound}
 use Rattle.checker.specs.Check.{Tallied}
 

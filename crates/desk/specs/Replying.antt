@@ -1,5 +1,5 @@
 -- What each request is answered, and what it leaves. Assumes nothing.
-use Rattle.std.specs.Prelude.{◌≡◌, ℕ, Bool, true, false, cond, ◌&&◌, ◌⊎◌, List, [], ◌∷◌, ◌++◌, length, Some, None, MatchBool, Option, ◌==◌}
+use Rattle.std.specs.Prelude.{◌≡◌, ℕ, Bool, true, false, ◌&&◌, ◌⊎◌, List, [], ◌∷◌, ◌++◌, length, Some, None, MatchBool, Option, ◌==◌}
 use Rattle.lines.specs.Matrix.{Matrix, busiest, nothing}
 use Rattle.lines.specs.Verdicts.{or_same}
 use Rattle.owed.specs.declared.decline.OwedDecline.{OwedDecline}

@@ -1,19 +1,18 @@
 -- Calls that are given, one or many. Assumes nothing.
-use Rattle.std.proofs.Common.{◌≡◌, ℕ, suc, ◌+◌, ◌<◌, min, List, [], ◌∷◌, ◌++◌, length, get_or, take, drop, set, sym, refl, ap, ◌∙◌, subst, add-one, arith, Bor}
-use Rattle.std.proofs.lemmas.List.{take_more, take_more_set, drop_more, drop-drop, drop-set-lt}
+use Rattle.std.proofs.Common.{◌≡◌, ℕ, ◌+◌, ◌<◌, List, [], ◌∷◌, ◌++◌, length, get_or, take, drop, set, sym, ap, ◌∙◌, subst, arith, Bor}
+use Rattle.std.proofs.lemmas.List.{take_more, take_more_set, drop-drop, drop-set-lt}
 use Rattle.matching.specs.Answers.{May, AllRight}
-use Rattle.planning.proofs.Serving.{Fit, serves, tight}
+use Rattle.planning.proofs.Serving.{serves, tight}
 use Rattle.law.specs.declared.call.Call.{Call}
 use Rattle.law.specs.declared.call.Call.TheVariants.{Batch, Write}
 use Rattle.law.specs.declared.answer.Answer.{Answer}
 use Rattle.law.specs.States.{State}
 use Rattle.law.specs.Calls.{Maker, Does}
-use Rattle.law.specs.History.{Makes, Made}
-use Rattle.law.specs.Stories.{Lawful, Performed}
+use Rattle.law.specs.History.{Makes}
+use Rattle.law.specs.Stories.{Lawful}
 use Rattle.law.proofs.Batches.{same_bytes}
 use Rattle.law.proofs.Law.{lawful}
-use Rattle.law.proofs.Performing.{Performing, performing_none, performing_more, performing_all}
-use Rattle.switch.specs.Meaning.{Meaning}
+use Rattle.law.proofs.Performing.{Performing, performing_more}
 use Rattle.session.specs.Sessions.{PlannedBy, Acts}
 use Rattle.ledger.specs.Acted.{Acted}
 

@@ -1,14 +1,13 @@
 -- What comes of reading modes that were written. Assumes nothing.
-use Rattle.std.proofs.Common.{◌≡◌, ℕ, ◌<◌, ◌⊎◌, List, length, Ok, Err, Result, ap, ◌∙◌, inl, inr, arith, MatchResult}
+use Rattle.std.proofs.Common.{ℕ, ◌<◌, List, length, Ok, Err, Result, ap, ◌∙◌, arith, MatchResult}
 use Rattle.schedule.specs.declared.Mode.{Mode}
-use Rattle.records.specs.Reader.{part}
-use Rattle.records.specs.Files.{count, modes_in}
+use Rattle.records.specs.Files.{count}
 use Rattle.records.proofs.Files.{length_modes}
 use Rattle.plan_files.specs.declared.decline.ReadDecline.{ReadDecline}
 use Rattle.plan_files.specs.declared.decline.ReadDecline.TheVariants.{Size, Improper, NoMemory}
 use Rattle.plan_files.specs.declared.read.PlanFile.{PlanFile}
 use Rattle.plan_files.specs.Back.{Again, Unread}
-use Rattle.plan_files.specs.Reading.{Lines, Fits, lines_said, Says, Tells, Untold}
+use Rattle.plan_files.specs.Reading.{Lines, Says, Tells, Untold}
 
 module _ (n : ℕ) (ms : List Mode) (file : List ℕ) (lines : Lines n) (says : Says n ms file) where
   -- there is a record only where there is a mode

@@ -1,5 +1,5 @@
 -- What a plan file says. Assumes nothing.
-use Rattle.std.specs.Prelude.{◌≡◌, ℕ, ◌<◌, ◌≤◌, List, length, vec_items, Result, MatchResult}
+use Rattle.std.specs.Prelude.{◌≡◌, ℕ, ◌<◌, ◌≤◌, List, length, vec_items}
 use Rattle.schedule.specs.declared.Mode.{Mode}
 use Rattle.records.specs.Layout.{lines_in, Proper}
 use Rattle.records.specs.Reader.{part}

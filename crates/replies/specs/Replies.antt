@@ -1,5 +1,5 @@
 -- The bytes of each answer line. Assumes nothing.
-use Rattle.std.specs.Prelude.{ℕ, List, [], ◌++◌, Some, None, codes, decimal, Option}
+use Rattle.std.specs.Prelude.{ℕ, List, ◌++◌, Some, None, codes, decimal, Option}
 use Rattle.std.proofs.Math.Utf8.{encode}
 use Rattle.replies.specs.declared.Cause.{Cause}
 use Rattle.replies.specs.declared.Cause.TheVariants.{End, Short, Stop, Budget}

@@ -1,5 +1,5 @@
 -- Calls as a session shows them: declines, bookings and questions. Assumes nothing.
-use Rattle.std.proofs.Common.{◌≡◌, ℕ, ◌+◌, ◌<◌, true, false, List, [], ◌∷◌, length, Some, None, Ok, Err, Option, sym, refl, ap, ◌∙◌, subst, arith, Bor}
+use Rattle.std.proofs.Common.{◌≡◌, ℕ, false, List, [], length, Some, None, Ok, Err, Option, refl, ap, ◌∙◌, subst, arith, Bor}
 use Rattle.std.proofs.lemmas.Bool.{true≢false}
 use Rattle.lines.specs.declared.Uplink.{Uplink}
 use Rattle.lines.specs.declared.Downlink.{Downlink}
@@ -11,12 +11,12 @@ use Rattle.records.specs.Reservations.{reservations}
 use Rattle.law.specs.declared.call.Call.{Call}
 use Rattle.law.specs.declared.call.Call.TheVariants.{Post, Withdraw, Batch, Owed}
 use Rattle.law.specs.declared.answer.Answer.{Answer}
-use Rattle.law.specs.declared.answer.Answer.TheVariants.{Accepted, Declined, Units}
+use Rattle.law.specs.declared.answer.Answer.TheVariants.{Accepted, Declined}
 use Rattle.law.specs.declared.decline.SessionDecline.{SessionDecline}
 use Rattle.law.specs.declared.decline.SessionDecline.TheVariants.{Booking, NoPlan}
 use Rattle.law.specs.States.{State, Plan, idle, planned, stands}
 use Rattle.law.specs.Refusals.{if_planned, refusal, batch_decline}
-use Rattle.law.specs.Calls.{Maker, Does, does, reserved}
+use Rattle.law.specs.Calls.{Maker, does, reserved}
 use Rattle.law.proofs.Said.{same_state, none_answered, some_answered, some_told, past_6, declined_so}
 use Rattle.law.proofs.Bookings.{post_declined_so, posted_so, withdraw_declined_so, withdrawn_so}
 use Rattle.session.specs.Sessions.{Acts}

@@ -1,5 +1,5 @@
 -- A session's plan, from mode to mode. Assumes nothing.
-use Rattle.std.proofs.Common.{◌≡◌, ℕ, ◌+◌, ◌-◌, ◌<◌, ◌≤◌, Bool, true, false, cond, eqb, ltb, ◌⊎◌, List, [], ◌∷◌, length, get_or, drop, Some, None, Option, sym, refl, ap, ◌∙◌, subst, inl, inr, arith}
+use Rattle.std.proofs.Common.{◌≡◌, ℕ, ◌+◌, ◌-◌, ◌<◌, ◌≤◌, Bool, cond, ◌⊎◌, List, [], ◌∷◌, length, get_or, drop, Some, None, Option, sym, refl, ap, ◌∙◌, subst, inl, inr, arith}
 use Rattle.std.proofs.lemmas.Bool.Decides.{nat_tests}
 use Rattle.std.proofs.lemmas.Bool.{cases_lt, lt-ltb, le-ltb, eq-eqb}
 use Rattle.std.proofs.lemmas.List.{drop_more, drop_all, get_or_past}
@@ -17,7 +17,7 @@ use Rattle.planning.specs.declared.plan.Plan.{Plan}
 use Rattle.planning.specs.Plans.{plan_lines, plan_modes}
 use Rattle.planning.specs.Kept.{no_mode, mode_at}
 use Rattle.planning.proofs.Keeping.{mode_kept}
-use Rattle.law.specs.States.{Plan as Standing, idle, planned, onward}
+use Rattle.law.specs.States.{idle, planned, onward}
 use Rattle.law.specs.Runs.{carried_by}
 use Rattle.session.specs.declared.state.State.{State}
 use Rattle.session.specs.declared.state.State.TheVariants.{Idle, Planned}

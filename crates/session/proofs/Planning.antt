@@ -1,9 +1,8 @@
 -- A plan that a session makes and takes up. Assumes nothing.
-use Rattle.std.proofs.Common.{◌≡◌, ℕ, ◌-◌, ◌<◌, ◌≤◌, Bool, true, cond, eqb, List, [], length, drop, sym, refl, ap, ◌∙◌, subst, arith, length-drop}
-use Rattle.lines.specs.Matrix.{Matrix, busiest}
+use Rattle.std.proofs.Common.{◌≡◌, ℕ, ◌-◌, ◌<◌, Bool, true, cond, eqb, [], length, drop, sym, refl, ap, ◌∙◌, arith, length-drop}
+use Rattle.lines.specs.Matrix.{busiest}
 use Rattle.schedule.specs.Modes.{span, Serves}
 use Rattle.owed.specs.declared.matrix.Owed.{Owed}
-use Rattle.owed.specs.Limits.{limit}
 use Rattle.owed.specs.Calls.{lines_of, units_of}
 use Rattle.switch.specs.Meaning.{Meaning}
 use Rattle.matching.specs.Answers.{May}
@@ -16,10 +15,9 @@ use Rattle.law.specs.declared.decline.SessionDecline.TheVariants.{NothingOwed, N
 use Rattle.law.specs.States.{State as Shown, Plan as Standing, idle, planned, modes_left, with_plan}
 use Rattle.law.specs.Calls.{Maker}
 use Rattle.law.proofs.Answering.{nothing_owed_so, no_memory_so, planned_so, modes_left_so}
-use Rattle.session.specs.declared.state.State.{State}
 use Rattle.session.specs.declared.state.State.TheVariants.{Planned}
 use Rattle.session.specs.declared.state.Session.{Session}
-use Rattle.session.specs.Standing.{place_of, count_of, standing_on}
+use Rattle.session.specs.Standing.{standing_on}
 use Rattle.session.specs.Sessions.{state_of, PlannedBy, Acts}
 use Rattle.session.proofs.Advances.{Good, serves_within}
 use Rattle.session.proofs.Stepping.{shown}

@@ -15,7 +15,7 @@ use Rattle.law.specs.declared.answer.Shortfall.{Shortfall}
 use Rattle.law.specs.declared.decline.SessionDecline.TheVariants.{Mode as OfMode}
 use Rattle.law.specs.States.{State as Shown, planned}
 use Rattle.law.specs.Runs.{carried_by, shortfall}
-use Rattle.law.proofs.Stepping.{RanWhole, NotRun, whole_ran, whole_declined, mode_run, advanced_so, next_declined}
+use Rattle.law.proofs.Stepping.{RanWhole, whole_ran, whole_declined, mode_run, advanced_so, next_declined}
 use Rattle.session.specs.declared.state.State.{State}
 use Rattle.session.specs.declared.state.State.TheVariants.{Planned}
 use Rattle.session.specs.declared.state.Session.{Session}

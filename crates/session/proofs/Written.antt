@@ -1,5 +1,5 @@
 -- The modes left, written as records. Assumes nothing.
-use Rattle.std.proofs.Common.{◌≡◌, ℕ, ◌*◌, ◌<◌, ◌≤◌, Bool, true, false, cond, eqb, ltb, List, [], ◌∷◌, ◌++◌, length, drop, Some, None, Ok, Err, Option, sym, refl, ap, ◌∙◌, subst, inl, inr, arith}
+use Rattle.std.proofs.Common.{◌≡◌, ℕ, ◌*◌, ◌<◌, ◌≤◌, Bool, true, false, cond, eqb, List, [], ◌++◌, length, drop, Some, None, Ok, Err, Option, sym, refl, ap, ◌∙◌, subst, inl, inr, arith}
 use Rattle.std.proofs.lemmas.Bool.{cases_lt, lt-ltb, le-ltb}
 use Rattle.lines.specs.Verdicts.{told, or_same}
 use Rattle.schedule.specs.declared.Mode.{Mode}
@@ -14,17 +14,17 @@ use Rattle.switch.specs.Meaning.{Meaning}
 use Rattle.law.specs.declared.call.Call.TheVariants.{Write}
 use Rattle.law.specs.declared.answer.Answer.TheVariants.{Wrote, Declined}
 use Rattle.law.specs.declared.decline.SessionDecline.TheVariants.{NoPlan, ShortBuffer}
-use Rattle.law.specs.States.{Plan as Standing, idle, planned, stands}
+use Rattle.law.specs.States.{idle, planned, stands}
 use Rattle.law.specs.Calls.{Maker, Does}
 use Rattle.law.proofs.Said.{none_told, value_told, some_told, declined_so}
 use Rattle.law.proofs.Answering.{short_buffer_so, wrote_so}
 use Rattle.session.specs.declared.state.State.{State}
-use Rattle.session.specs.declared.state.State.TheVariants.{Idle, Planned}
+use Rattle.session.specs.declared.state.State.TheVariants.{Planned}
 use Rattle.session.specs.declared.state.Session.{Session}
 use Rattle.session.specs.Standing.{standing_on}
 use Rattle.session.specs.Sessions.{state_of}
 use Rattle.session.proofs.Acting.{no_plan}
-use Rattle.session.proofs.Advances.{Good, good_of}
+use Rattle.session.proofs.Advances.{good_of}
 
 fits : (many room : ℕ) → write_decline many room ≡ None → 52 * many ≤ room
 fits many room h =

@@ -1,5 +1,5 @@
 -- The modes left of a session's plan, and the plan that stands on a switch. Assumes nothing.
-use Rattle.std.specs.Prelude.{◌≡◌, ℕ, ◌+◌, ◌-◌, ◌<◌, ◌≤◌, cond, List, [], ◌∷◌, length, drop, ◌==◌, nat_lt}
+use Rattle.std.specs.Prelude.{ℕ, ◌+◌, ◌-◌, cond, List, [], length, drop, ◌==◌, nat_lt}
 use Rattle.schedule.specs.declared.Mode.{Mode}
 use Rattle.planning.specs.Plans.{plan_lines, plan_modes}
 use Rattle.law.specs.States.{Plan, idle, planned}

@@ -5,8 +5,7 @@ use Rattle.line_input.specs.Kept.{is_empty}
 use Rattle.line_input.specs.Lines.{Holds}
 use Rattle.replies.specs.declared.Reply.{Reply}
 use Rattle.script.specs.Requests.{request_of}
-use Rattle.desk.specs.declared.stage.Stage.TheVariants.{Start}
-use Rattle.desk.specs.Replying.{stage_of, Answers}
+use Rattle.desk.specs.Replying.{Answers}
 use Rattle.terminal.specs.declared.Terminal.{Terminal}
 use Rattle.terminal.specs.Scripts.{Answered}
 

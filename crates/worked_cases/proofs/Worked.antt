@@ -1,9 +1,9 @@
 -- The worked cases. Assumes nothing.
-use Rattle.std.proofs.Common.{◌≡◌, ℕ, zero, suc, ◌+◌, ◌<◌, ◌≤◌, min, Bool, true, false, ◌&&◌, ◌||◌, eqb, List, [], ◌∷◌, length, sym, refl, ◌∙◌, inl, inr, arith}
-use Rattle.std.proofs.lemmas.Bool.{cases_eq, cases_lt, and_parts, eqb-true}
+use Rattle.std.proofs.Common.{◌≡◌, ℕ, zero, suc, ◌+◌, ◌<◌, ◌≤◌, min, Bool, true, false, ◌&&◌, eqb, List, [], ◌∷◌, length, sym, refl, ◌∙◌, inl, inr, arith}
+use Rattle.std.proofs.lemmas.Bool.{cases_eq, and_parts, eqb-true}
 use Rattle.lines.specs.declared.Place.TheVariants.{Nowhere}
 use Rattle.lines.specs.Matrix.{Matrix, busiest, nothing, Same}
-use Rattle.lines.specs.Sums.{count_below, one_if}
+use Rattle.lines.specs.Sums.{count_below}
 use Rattle.lines.specs.Sets.{has}
 use Rattle.lines.proofs.Bits.{has_over}
 use Rattle.matching.specs.Supports.{Witness, reached}

@@ -1,4 +1,4 @@
-use Rattle.std.proofs.Common.{◌≡◌, ℕ, ◌+◌, ◌⊎◌, sym, refl, ap, ◌∙◌, subst, inl, inr, arith}
+use Rattle.std.proofs.Common.{◌≡◌, ℕ, ◌+◌, ◌⊎◌, sym, ◌∙◌, subst, inl, inr, arith}
 use Rattle.law.specs.Runs.{missing_at, missed, lowest_short}
 use Rattle.switch.specs.Meaning.{most_lines}
 use Rattle.booking.proofs.Lowest.{Seen, seen_past, seen_here}

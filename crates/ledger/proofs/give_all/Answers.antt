@@ -1,4 +1,4 @@
-use Rattle.std.proofs.Common.{◌≡◌, ℕ, min, length, take, drop, sym, refl, ap, ◌∙◌, subst, arith}
+use Rattle.std.proofs.Common.{◌≡◌, ℕ, min, length, take, drop, refl, subst, arith}
 use Rattle.law.proofs.Performing.{Performing, performing_none, performing_all}
 use Rattle.session.specs.Sessions.{state_of, PlannedBy}
 use Rattle.ledger.proofs.Giving.{makes, performs_more, keeps_more}

@@ -1,4 +1,4 @@
-use Rattle.std.proofs.Common.{◌≡◌, length, take, drop}
+use Rattle.std.proofs.Common.{◌≡◌, take, drop}
 use Rattle.law.proofs.Performing.{Performing}
 use Rattle.session.specs.Sessions.{state_of, PlannedBy}
 use Rattle.ledger.proofs.give_all.Given as goal

@@ -1,4 +1,4 @@
-use Rattle.std.proofs.Common.{◌≡◌, true, false, is_err, sym, refl, ap, ◌∙◌}
+use Rattle.std.proofs.Common.{true, is_err, refl, ap, ◌∙◌}
 use Rattle.std.proofs.lemmas.Bool.{both_ways}
 use Rattle.lines.specs.Verdicts.{answered}
 use Rattle.worked_cases.proofs.Worked.{worked}

@@ -1,9 +1,9 @@
-use Rattle.std.proofs.Common.{◌≡◌, ◌<◌, ◌≤◌, sym, refl, ap, ◌∙◌, subst, arith}
+use Rattle.std.proofs.Common.{◌≡◌, ◌<◌, sym, refl, ap, ◌∙◌, subst, arith}
 use Rattle.lines.specs.Matrix.{cells}
 use Rattle.owed.proofs.Cells.{zeros}
 use Rattle.schedule.specs.declared.Mode.{Mode}
 use Rattle.schedule.specs.Modes.{Sound}
-use Rattle.records.specs.Layout.{mode_of, Proper}
+use Rattle.records.specs.Layout.{mode_of}
 use Rattle.records.specs.Reader.{part}
 use Rattle.records.specs.Files.{count}
 use Rattle.checker.proofs.Tallies.{tallied_none, tallied_more, tally_within}

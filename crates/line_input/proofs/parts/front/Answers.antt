@@ -1,4 +1,4 @@
-use Rattle.std.proofs.Common.{◌≡◌, ℕ, ◌-◌, List, take, ap, ◌∙◌, arith}
+use Rattle.std.proofs.Common.{◌≡◌, ℕ, ◌-◌, take, ap, ◌∙◌, arith}
 use Rattle.script.specs.Requests.{request_of}
 use Rattle.line_input.proofs.Fronts.{front_asks}
 use Rattle.line_input.proofs.parts.front.Goals as goal

@@ -1,9 +1,8 @@
-use Rattle.std.proofs.Common.{◌≡◌, ℕ, ◌+◌, ◌-◌, ◌*◌, ◌<◌, ◌≤◌, List, [], ◌++◌, length, take, drop, sym, refl, ap, ◌∙◌, subst, arith, rules}
+use Rattle.std.proofs.Common.{◌≡◌, ℕ, ◌+◌, ◌-◌, ◌*◌, ◌<◌, ◌≤◌, List, [], ◌++◌, length, take, drop, sym, ap, ◌∙◌, subst, arith, rules}
 use Rattle.std.specs.List.{flat_map, AllByRecursion as All}
 use Rattle.std.proofs.lemmas.List.{take_all, take-append-drop, places}
 use Rattle.std.proofs.ByRecursion.{All-more}
 use Rattle.std.proofs.lemmas.Slice.{drop-put_mid}
-use Rattle.schedule.specs.declared.Mode.{Mode}
 use Rattle.plan_files.specs.Encoding.{encode, encoded, Full}
 use Rattle.plan_files.proofs.RoundTrip.{comes_back, serves_on}
 use Rattle.plan_files.proofs.Steps.{one_more, later}

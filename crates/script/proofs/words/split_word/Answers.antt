@@ -1,4 +1,4 @@
-use Rattle.std.proofs.Common.{◌≡◌, ℕ, suc, ◌+◌, ◌-◌, List, ◌∷◌, length, take, drop, sym, refl, ap, ◌∙◌, add-one, arith}
+use Rattle.std.proofs.Common.{◌≡◌, ℕ, suc, ◌+◌, ◌-◌, List, ◌∷◌, length, take, drop, sym, ap, ◌∙◌, add-one, arith}
 use Rattle.script.specs.Words.{split}
 use Rattle.script.proofs.Pieces.{no_space, at_space}
 use Rattle.std.proofs.lemmas.List.{take_rest}

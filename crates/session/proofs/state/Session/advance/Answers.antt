@@ -1,7 +1,6 @@
-use Rattle.std.proofs.Common.{◌≡◌, List, get_or, refl, ap}
+use Rattle.std.proofs.Common.{List, get_or, refl, ap}
 use Rattle.schedule.specs.declared.Mode.{Mode}
-use Rattle.planning.specs.Plans.{plan_modes}
-use Rattle.planning.specs.Kept.{no_mode, mode_at}
+use Rattle.planning.specs.Kept.{no_mode}
 use Rattle.session.proofs.Stepping.{lasts, stays, stays_good, steps}
 use Rattle.session.proofs.state.Session.advance.Goals as goal
 

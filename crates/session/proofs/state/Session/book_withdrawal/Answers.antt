@@ -1,4 +1,4 @@
-use Rattle.std.proofs.Common.{◌≡◌, ℕ, sym, refl, ap, ◌∙◌, subst}
+use Rattle.std.proofs.Common.{ℕ, refl, ap, ◌∙◌}
 use Rattle.law.specs.declared.call.Call.TheVariants.{Withdraw}
 use Rattle.law.specs.declared.decline.SessionDecline.TheVariants.{PlanStands}
 use Rattle.law.proofs.Said.{says_6}

@@ -1,4 +1,4 @@
-use Rattle.std.proofs.Common.{◌≡◌, None, refl, ap, ◌∙◌}
+use Rattle.std.proofs.Common.{None, refl, ap, ◌∙◌}
 use Rattle.law.specs.declared.call.Call.TheVariants.{Drop}
 use Rattle.law.specs.declared.decline.SessionDecline.TheVariants.{NoPlan}
 use Rattle.law.proofs.Said.{says_9}

@@ -1,7 +1,6 @@
 use Rattle.std.proofs.Common.{[], ◌∷◌, refl}
 use Rattle.law.specs.declared.call.Call.TheVariants.{Step}
 use Rattle.law.proofs.Stepping.{stepped_so}
-use Rattle.session.specs.Sessions.{state_of}
 use Rattle.session.proofs.Acting.{declines}
 use Rattle.session.proofs.state.Session.next_step.Goals as goal
 

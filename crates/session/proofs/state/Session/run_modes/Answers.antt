@@ -1,12 +1,12 @@
-use Rattle.std.proofs.Common.{◌≡◌, ℕ, ◌<◌, ◌≤◌, true, false, [], Some, sym, refl, ap, ◌∙◌, subst, arith}
+use Rattle.std.proofs.Common.{◌≡◌, [], Some, sym, refl, ◌∙◌, subst, arith}
 use Rattle.law.specs.declared.call.Call.TheVariants.{Run}
 use Rattle.law.specs.declared.answer.Answer.TheVariants.{Ran}
 use Rattle.law.specs.declared.answer.Cause.TheVariants.{Stop}
 use Rattle.law.specs.declared.decline.SessionDecline.TheVariants.{NoPlan}
-use Rattle.law.specs.States.{State, Plan, stands}
+use Rattle.law.specs.States.{State}
 use Rattle.law.specs.Refusals.{next_decline}
 use Rattle.law.proofs.Going.{StepTo, going_none, going_on, ends_so, falls_short_so, stopped_so, spent_so, going_first, no_budget_so, run_declined_so}
-use Rattle.session.specs.Sessions.{state_of, PlannedBy, StepsTo, Stays, Acts}
+use Rattle.session.specs.Sessions.{state_of, PlannedBy, StepsTo, Acts}
 use Rattle.session.specs.declared.running.Step.{Step}
 use Rattle.session.proofs.Acting.{declines, no_plan}
 use Rattle.session.proofs.state.Session.run_modes.Goals as goal

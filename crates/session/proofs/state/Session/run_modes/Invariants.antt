@@ -1,4 +1,4 @@
-use Rattle.std.proofs.Common.{◌≡◌, ◌-◌, ◌≤◌}
+use Rattle.std.proofs.Common.{◌-◌, ◌≤◌}
 use Rattle.law.proofs.Going.{Going}
 use Rattle.session.specs.Sessions.{state_of}
 use Rattle.session.proofs.state.Session.run_modes.Given as goal

@@ -1,4 +1,4 @@
-use Rattle.std.proofs.Common.{◌≡◌, ◌<◌, true, eqb, sym, refl, ap, ◌∙◌, subst}
+use Rattle.std.proofs.Common.{sym, refl, ap, ◌∙◌, subst}
 use Rattle.lines.specs.Matrix.{busiest}
 use Rattle.owed.specs.Calls.{lines_of, units_of}
 use Rattle.planning.specs.declared.decline.PlanDecline.{PlanDecline}

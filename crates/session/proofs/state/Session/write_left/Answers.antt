@@ -1,8 +1,8 @@
-use Rattle.std.proofs.Common.{◌≡◌, false, cond, List, drop, sym, refl, ap, ◌∙◌}
+use Rattle.std.proofs.Common.{cond, List, drop, sym, refl, ap, ◌∙◌}
 use Rattle.schedule.specs.declared.Mode.{Mode}
 use Rattle.std.proofs.lemmas.List.{take_rest}
 use Rattle.planning.specs.Plans.{plan_modes}
-use Rattle.law.specs.States.{Plan, idle, planned, stands}
+use Rattle.law.specs.States.{idle, planned, stands}
 use Rattle.session.proofs.Written.{writes_idle, none_stands, writes, writes_not}
 use Rattle.session.proofs.state.Session.write_left.Goals as goal
 
