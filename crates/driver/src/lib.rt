@@ -14,10 +14,10 @@ pub struct OpenMode {
     dwell: u16,
 }
 
-// Letting an open mode go asks what nobody can show, so a program that forgets one is refused.
+// Only a mode without a dwell may be let go. No switch opens one, and nothing else makes a token, so a program that forgets an open mode is refused.
 impl Drop for OpenMode {
     fn drop(self)
-        requires { ⊥ }
+        requires { self.dwell ≡ 0 }
     {
         let OpenMode { dwell: _ } = self;
     }
