@@ -1,5 +1,5 @@
 -- What the driver answers: the switch's answer, with the token of an open mode. Assumes nothing.
-use Rattle.std.specs.Prelude.{ℕ, Some, None, Option, Result}
+use Rattle.std.specs.Prelude.{ℕ, false, Some, None, Option, Result}
 use Rattle.lines.specs.declared.Uplink.{Uplink}
 use Rattle.lines.specs.declared.Downlink.{Downlink}
 use Rattle.lines.specs.declared.Place.{Place}
@@ -18,9 +18,9 @@ number e = switch_number e.«switch»
 abbrev pub place : DriverDecline → Place
 place e = switch_place e.«switch»
 
--- the token of a mode of dwell d
+-- the token of a mode of dwell d, which is not spent
 abbrev pub token : ℕ → OpenMode
-token d = record { dwell = d }
+token d = record { dwell = d; spent = false }
 
 -- the driver's decline, round the switch's
 abbrev pub round : Option SwitchDecline → Option DriverDecline

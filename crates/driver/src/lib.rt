@@ -1,7 +1,7 @@
 // The driver: programs open, grant, run and void a mode through a token that must be given back.
 #![tactic(auto)]
 
-ghost use Rattle.std.specs.Prelude.{◌≡◌};
+ghost use Rattle.std.specs.Prelude.{◌≡◌, true};
 ghost use Rattle.lines.specs.Verdicts.{or_same};
 ghost use Rattle.switch.specs.Calls.{open_decline, opens, grant_decline, grants, RunTo, voids};
 ghost use Rattle.driver.specs.Answers.{number, place, open_answer, grant_answer, spend_answer};
@@ -9,17 +9,18 @@ ghost use Rattle.driver.specs.Answers.{number, place, open_answer, grant_answer,
 use lines::{Downlink, Place, Uplink};
 use switch::{Switch, SwitchDecline};
 
-// The token of a mode that is open. Run or void takes it back.
+// The token of a mode that is open. Run or void takes it back, and only then it is spent.
 pub struct OpenMode {
     dwell: u16,
+    spent: bool,
 }
 
-// Only a mode without a dwell may be let go. No switch opens one, and nothing else makes a token, so a program that forgets an open mode is refused.
+// Only a spent token may be let go. The driver hands out none, and nobody else can spend one, so a program that forgets an open mode is refused.
 impl Drop for OpenMode {
     fn drop(self)
-        requires { self.dwell ≡ 0 }
+        requires { self.spent ≡ true }
     {
-        let OpenMode { dwell: _ } = self;
+        let OpenMode { dwell: _, spent: _ } = self;
     }
 }
 
@@ -31,8 +32,8 @@ impl OpenMode {
         self.dwell
     }
 
-    fn end(self) {
-        let OpenMode { dwell: _ } = self;
+    fn end(mut self) {
+        self.spent = true;
     }
 }
 
@@ -67,7 +68,10 @@ pub fn open<S: Switch>(s: &mut S, dwell: u16) -> Result<OpenMode, DriverDecline>
     ensures after { S.meaning s.new ≡ or_same (open_decline dwell (S.meaning s.old)) (opens dwell (S.meaning s.old)) (S.meaning s.old) }
 {
     match s.open(dwell) {
-        Ok(()) => Ok(OpenMode { dwell }),
+        Ok(()) => Ok(OpenMode {
+            dwell,
+            spent: false,
+        }),
         Err(e) => Err(DriverDecline { switch: e }),
     }
 }

@@ -5,7 +5,8 @@ use Rattle.std.specs.Option.{option_eq}
 use Rattle.std.proofs.lemmas.Slice.Eq.{slice_eq-Decides}
 use Rattle.std.proofs.lemmas.Bool.Decides.{same_from_decides}
 use Rattle.schedule.specs.declared.Join.{Join}
-use Rattle.schedule.specs.Equal.{same_join, same_rows}
+use Rattle.schedule.specs.declared.Mode.{Mode}
+use Rattle.schedule.specs.Equal.{same_join, same_rows, same_mode}
 
 join_told : (x y : Join) → Decides (same_join x y) (x ≡ y)
 join_told x y = grind arith
@@ -21,3 +22,9 @@ grant_told (Some x) (Some y) =
 -- whatever tells whether two rows are the same is what `==` of them answers
 pub rows_told : (xs ys : List (Option Join)) (r : Bool) → Decides r (xs ≡ ys) → r ≡ same_rows xs ys
 rows_told xs ys r d = same_from_decides r (same_rows xs ys) d (slice_eq-Decides grant_told xs ys (same_rows xs ys) refl)
+
+-- `==` of two modes is true exactly where they are the same
+pub mode_told : (x y : Mode) → Decides (same_mode x y) (x ≡ y)
+mode_told x y =
+    let rows = slice_eq-Decides grant_told x.row y.row (same_rows x.row y.row) refl in
+    grind (arith, rows)
