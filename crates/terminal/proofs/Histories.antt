@@ -1,6 +1,6 @@
 -- A script that grows by a byte, and its lines. Assumes nothing.
 use Rattle.std.proofs.Common.{◌≡◌, ℕ, Bool, true, false, cond, List, [], ◌∷◌, ◌++◌, MatchBool, sym, refl, ap, ◌∙◌, subst}
-use Rattle.std.specs.List.{AllByRecursion as All}
+use Rattle.std.specs.List.{AllByRecursion}
 use Rattle.std.proofs.lemmas.List.{append-nil, append_assoc}
 use Rattle.std.proofs.ByRecursion.{All-push}
 use Rattle.std.proofs.lemmas.Bool.{ne_eqb, true≢false, false≢true}
@@ -79,7 +79,7 @@ first_line : (l bs : List ℕ) → Unbroken l → lines_of (l ++ (10 ∷ bs)) �
 first_line [] bs h = refl
 first_line (b ∷ l) bs h = no_feed b (l ++ (10 ∷ bs)) h.0 ∙ ap (before b) (first_line l bs h.1)
 
-fed_lines : (ls : List (List ℕ)) (l : List ℕ) → All Unbroken ls → Unbroken l → lines_of (fed ls ++ l) ≡ ls ++ rest l
+fed_lines : (ls : List (List ℕ)) (l : List ℕ) → AllByRecursion Unbroken ls → Unbroken l → lines_of (fed ls ++ l) ≡ ls ++ rest l
 fed_lines [] l a h = one_line l h
 fed_lines (k ∷ ls) l a h =
     ap lines_of (append_assoc k (10 ∷ fed ls) l)

@@ -1,6 +1,6 @@
 -- A script as it comes in, byte by byte. Assumes nothing.
 use Rattle.std.specs.Prelude.{◌≡◌, ℕ, List, [], ◌∷◌, ◌++◌, None, MatchBool, Option, MatchOption, ◌==◌, ◌≢◌}
-use Rattle.std.specs.List.{AllByRecursion as All}
+use Rattle.std.specs.List.{AllByRecursion}
 use Rattle.line_input.specs.Kept.{is_empty}
 use Rattle.line_input.specs.Lines.{Holds}
 use Rattle.replies.specs.declared.Reply.{Reply}
@@ -29,7 +29,7 @@ Ended t line r u = MatchBool (is_empty line) ((r ≡ None) × Grown t line u) (M
 
 -- a line holds no line feed
 abbrev pub Unbroken : List ℕ → Type 0
-Unbroken line = All (λ b. b ≢ 10) line
+Unbroken line = AllByRecursion (λ b. b ≢ 10) line
 
 -- lines with a line feed after each
 abbrev pub fed : List (List ℕ) → List ℕ
@@ -41,7 +41,7 @@ pub record Heard (script : List ℕ) (rs : List Reply) (t : Terminal) : Type 0 w
   pub lines : List (List ℕ)
   pub last : List ℕ
   pub laid : script ≡ fed lines ++ last
-  pub apart : All Unbroken lines
+  pub apart : AllByRecursion Unbroken lines
   pub unbroken : Unbroken last
   pub answered : Answered lines rs t.desk
   pub held : Holds t.input last
