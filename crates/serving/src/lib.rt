@@ -15,8 +15,8 @@ fn print_reply(rt: &HostRuntime, reply: &Reply) -> io::Result<()> {
     println!(rt; "{line}")
 }
 
-// Answers the lines that end in some bytes.
-fn answer_bytes(rt: &HostRuntime, bytes: &[u8], terminal: &mut Terminal) -> io::Result<()>
+// Answers the lines that end in some bytes. All of the bytes are heard, in their order.
+pub fn answer_bytes(rt: &HostRuntime, bytes: &[u8], terminal: &mut Terminal) -> io::Result<()>
     ensures { OnOk result (HearsOn terminal.old bytes.now terminal.new) }
 {
     for byte in bytes {
@@ -72,7 +72,7 @@ fn finish(rt: &HostRuntime, terminal: &mut Terminal) -> io::Result<()>
     }
 }
 
-// Answers each line of standard input as it comes: what the script has led to at its end.
+// Answers each line of standard input as it comes: what some script has led to at its end. No contract can say what standard input holds.
 pub fn answer_input(rt: &HostRuntime) -> io::Result<Terminal>
     ensures { IfOk result HasAnswered }
 {
