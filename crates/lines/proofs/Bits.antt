@@ -211,3 +211,11 @@ trailing_first (suc k) x p h =
     go : (d : ℕ) → x % 2 ≡ d → (x % 2 ≡ 0 → First (x / 2) (count_trailing_zeros k (x / 2))) → First x (under d (count_trailing_zeros k (x / 2)))
     go zero e rest = first_next x (count_trailing_zeros k (x / 2)) e (rest e)
     go (suc d) e rest = (low_is x (omega arith), λ i lt. absurd (omega arith))
+
+-- ---- of sixteen lines
+
+pub without_16 : (x y : ℕ) → x < 65536 → y < 65536 → (k : ℕ) → has (bit_and x (65535 - y)) k ≡ (has x k && not (has y k))
+without_16 x y lx ly k = has_without 16 x y k (omega arith) (omega arith)
+
+pub size_16 : (x : ℕ) → x < 65536 → ones x ≡ size 16 x
+size_16 x lx = sym (size_ones 16 x (omega arith))

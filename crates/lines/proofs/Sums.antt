@@ -44,9 +44,6 @@ pub term_le_sum : (n : ℕ) (f : ℕ → ℕ) (k : ℕ) → k < n → f k ≤ su
 term_le_sum zero f k l = omega arith
 term_le_sum (suc n) f k l = elim (cases_eq k n) [ inl e ↦ omega (arith, ap f e) | inr ne ↦ omega (arith, term_le_sum n f k (omega arith)) ]
 
-pub sum_zero_term : (n : ℕ) (f : ℕ → ℕ) → sum_below n f ≡ 0 → (k : ℕ) → k < n → f k ≡ 0
-sum_zero_term n f z k l = omega (arith, term_le_sum n f k l)
-
 -- f and g differ at most at k
 pub sum_change : (n : ℕ) (f g : ℕ → ℕ) (k : ℕ) → k < n → ((x : ℕ) → x < n → (x ≡ k → ⊥) → f x ≡ g x) → sum_below n f + g k ≡ sum_below n g + f k
 sum_change zero f g k l h = omega arith
@@ -108,7 +105,3 @@ sum_list (x ∷ xs) = omega (arith, sum_front (length xs) (λ k. get_or (x ∷ x
 -- one term more, as a loop counts
 pub sum_next : (n : ℕ) (f : ℕ → ℕ) → sum_below (n + 1) f ≡ sum_below n f + f n
 sum_next n f = let e : n + 1 ≡ suc n = omega arith in rw e refl
-
--- the sum so far and the next term are within the whole
-pub sum_room : (n : ℕ) (f : ℕ → ℕ) (k : ℕ) → k < n → sum_below k f + f k ≤ sum_below n f
-sum_room n f k l = sum_prefix (suc k) n f l

@@ -1,3 +1,4 @@
+// A number, and no type of its own: the rows and the witness of an engine are such numbers in public calls.
 // Sets of lines, held as the bits of a number: line j is in the set where the bit of value 2^j is 1.
 ghost use Rattle.std.specs.Prelude.{◌≡◌, ℕ, ◌<◌, ◌≤◌, true, false, not, ◌&&◌, ◌||◌, MatchOption, ◌≢◌, nat_lt};
 ghost use Rattle.lines.specs.Sets.{has, In, size};
@@ -33,30 +34,20 @@ pub fn with_line(set: u16, line: usize) -> u16
     if line < 16 { with_bit(set, line) } else { set }
 }
 
-fn bits_or(a: u16, b: u16) -> u16
+// The lines of either set.
+#[tactic(auto, using(crate::proofs::Bits::has_or))]
+pub fn united(a: u16, b: u16) -> u16
     ensures { (k : ℕ) → has result k ≡ (has a k || has b k) }
 {
     a | b
 }
 
-// The lines of either set.
-pub fn united(a: u16, b: u16) -> u16
-    ensures { (k : ℕ) → has result k ≡ (has a k || has b k) }
-{
-    bits_or(a, b)
-}
-
-fn bits_without(set: u16, away: u16) -> u16
-    ensures { (k : ℕ) → has result k ≡ (has set k && not (has away k)) }
-{
-    set & !away
-}
-
 // The lines of the set that are not among those taken away.
+#[tactic(auto, using(crate::proofs::Bits::without_16))]
 pub fn without(set: u16, away: u16) -> u16
     ensures { (k : ℕ) → has result k ≡ (has set k && not (has away k)) }
 {
-    bits_without(set, away)
+    set & !away
 }
 
 fn low_bits(n: usize) -> u16
@@ -70,7 +61,7 @@ fn low_bits(n: usize) -> u16
 pub fn lines_below(n: usize) -> u16
     ensures { (k : ℕ) → has result k ≡ (nat_lt k n && nat_lt k 16) }
 {
-    if n < 16 { low_bits(n) } else { low_bits(16) }
+    low_bits(n.min(16))
 }
 
 fn lowest_bit(set: u16) -> usize
@@ -98,15 +89,10 @@ pub fn is_empty(set: u16) -> bool
     lowest_line(set).is_none()
 }
 
-fn bit_count(set: u16) -> u32
-    ensures { result ≡ size 16 set }
-{
-    set.count_ones()
-}
-
 // How many lines are in the set.
+#[tactic(auto, using(crate::proofs::Bits::size_16))]
 pub fn set_size(set: u16) -> u32
     ensures { result ≡ size 16 set }
 {
-    bit_count(set)
+    set.count_ones()
 }

@@ -15,7 +15,7 @@ use Rattle.owed.specs.declared.decline.OwedDecline.{OwedDecline}
 use Rattle.owed.specs.declared.decline.OwedDecline.TheVariants.{Lines, LineAbove, NoUnits, LineFull, TooMuch}
 
 abbrev pub lines_of : Owed → ℕ
-lines_of o = o.lines
+lines_of o = o.lines.count
 
 -- the units owed at each crosspoint
 abbrev pub units_of : Owed → Matrix
@@ -45,6 +45,10 @@ at i j = record { up = i; down = j }
 abbrev pub line_decline : ℕ → Uplink → Downlink → Option OwedDecline
 line_decline n i j = cond (nat_le n i.0) (Some (LineAbove (Up i))) (cond (nat_le n j.0) (Some (LineAbove (Down j))) None)
 
+-- a line has no room for u more units
+abbrev pub room_decline : ℕ → Matrix → Line → ℕ → Option OwedDecline
+room_decline n m l u = cond (nat_lt limit (load n l m + u)) (Some (LineFull l)) None
+
 -- what stands against u more units at a crosspoint
 abbrev pub add_decline : ℕ → Matrix → Uplink → Downlink → ℕ → Option OwedDecline
 add_decline n m i j u =
@@ -72,15 +76,9 @@ abbrev pub sum_decline : ℕ → Line → Option OwedDecline
 sum_decline n (Up i) = cond (nat_le n i.0) (Some (LineAbove (Up i))) None
 sum_decline n (Down j) = cond (nat_le n j.0) (Some (LineAbove (Down j))) None
 
--- there is room for u more units at (i, j)
-pub record Room (n : ℕ) (m : Matrix) (i j u : ℕ) : Type 0 where
+-- with v units at (i, j) in place of those there, both lines stay within the limit
+pub record WithinLimits (n : ℕ) (m : Matrix) (i j v : ℕ) : Type 0 where
   pub up : i < n
   pub down : j < n
-  pub up_fits : uplink_sum n m i + u ≤ limit
-  pub down_fits : downlink_sum n m j + u ≤ limit
-
--- so many units are owed at (i, j)
-pub record Enough (n : ℕ) (m : Matrix) (i j u : ℕ) : Type 0 where
-  pub up : i < n
-  pub down : j < n
-  pub owed : u ≤ m i j
+  pub up_fits : uplink_sum n m i + v ≤ limit + m i j
+  pub down_fits : downlink_sum n m j + v ≤ limit + m i j

@@ -2,7 +2,7 @@
 ghost use Rattle.std.specs.Prelude.{◌≡◌};
 ghost use Rattle.owed.specs.Calls.{number, place};
 
-use lines::{Crosspoint, Line, Place};
+use lines::{Crosspoint, Decline, Line, Place};
 
 #[derive(Clone, Copy, PartialEq, Eq, Debug)]
 pub enum OwedDecline {
@@ -13,10 +13,12 @@ pub enum OwedDecline {
     TooMuch(Crosspoint),
 }
 
-impl OwedDecline {
-    pub fn number(&self) -> u8
-        ensures { result ≡ number self.now }
-    {
+impl Decline for OwedDecline {
+    ghost number = { number };
+
+    ghost place = { place };
+
+    fn number(&self) -> u16 {
         match *self {
             OwedDecline::Lines => 1,
             OwedDecline::LineAbove(_) => 4,
@@ -26,9 +28,7 @@ impl OwedDecline {
         }
     }
 
-    pub fn place(&self) -> Place
-        ensures { result ≡ place self.now }
-    {
+    fn place(&self) -> Place {
         match *self {
             OwedDecline::Lines => Place::Nowhere,
             OwedDecline::LineAbove(line) => Place::OnLine(line),

@@ -1,52 +1,25 @@
-// Line sums of rows of units.
-ghost use Rattle.std.specs.Prelude.{◌≡◌, ℕ, ◌+◌, ◌-◌, ◌<◌, ◌≤◌, ◌≢◌, slice_index};
-ghost use Rattle.lines.specs.Matrix.{cells, uplink_sum, downlink_sum, busiest};
-ghost use Rattle.owed.specs.Limits.{limit};
+// Rows of units: their sums, and a write.
+ghost use Rattle.std.specs.Prelude.{◌≡◌, ℕ, ◌^◌, ◌<◌, sum, sum_by, slice_index, ◌≢◌};
+ghost use Rattle.lines.specs.Matrix.{cells};
 
-// The units of uplink i.
-pub(super) fn up_sum(n: usize, rows: &[[u32; 16]; 16], i: usize) -> u32
-    requires size { (n ≤ 16) × (i < n) }
-    requires small { uplink_sum n (cells rows.now) i ≤ limit }
-    ensures { result ≡ uplink_sum n (cells rows.now) i }
+// The units of a row.
+pub(super) fn row_sum(row: &[u32; 16]) -> u32
+    requires { sum row.now < 2 ^ 32 }
+    ensures { result ≡ sum row.now }
 {
-    let mut sum: u32 = 0;
-    for j in 0..n {
-        sum += rows[i][j];
-    }
-    sum
+    row.iter().sum()
 }
 
-// The units of downlink j.
-pub(super) fn down_sum(n: usize, rows: &[[u32; 16]; 16], j: usize) -> u32
-    requires size { (n ≤ 16) × (j < n) }
-    requires small { downlink_sum n (cells rows.now) j ≤ limit }
-    ensures { result ≡ downlink_sum n (cells rows.now) j }
+// The units of column j.
+pub(super) fn column_sum(rows: &[[u32; 16]; 16], j: usize) -> u32
+    requires inside { j < 16 }
+    requires small { sum_by (λ row. slice_index row j) rows.now < 2 ^ 32 }
+    ensures { result ≡ sum_by (λ row. slice_index row j) rows.now }
 {
-    let mut sum: u32 = 0;
-    for i in 0..n {
-        sum += rows[i][j];
-    }
-    sum
+    rows.iter().map(|row| row[j]).sum()
 }
 
-// The largest line sum.
-pub(super) fn busiest_line(n: usize, rows: &[[u32; 16]; 16]) -> u32
-    requires size { n ≤ 16 }
-    requires small { busiest n (cells rows.now) ≤ limit }
-    ensures { result ≡ busiest n (cells rows.now) }
-{
-    let mut up: u32 = 0;
-    for i in 0..n {
-        up = up.max(up_sum(n, rows, i));
-    }
-    let mut down: u32 = 0;
-    for j in 0..n {
-        down = down.max(down_sum(n, rows, j));
-    }
-    up.max(down)
-}
-
-// Puts the units u at place j of a row.
+// Puts the units u at place j of a row. A row that is lent is known to have sixteen places, and one within rows is not.
 pub(super) fn put(row: &mut [u32; 16], j: usize, u: u32)
     requires { j < 16 }
     ensures here { slice_index row.new j ≡ u }

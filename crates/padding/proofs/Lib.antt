@@ -1,3 +1,4 @@
 pub mod Rows
 pub mod Visits
+pub mod Fronts
 pub mod Padding

@@ -1,5 +1,5 @@
 -- The visits of a row, one place after the other. Assumes nothing.
-use Rattle.std.proofs.Common.{◌≡◌, ℕ, ◌+◌, ◌-◌, ◌<◌, ◌≤◌, min, refl, ap, ◌∙◌, inl, inr, arith}
+use Rattle.std.proofs.Common.{◌≡◌, ℕ, ◌+◌, ◌-◌, ◌<◌, ◌≤◌, min, ap, ◌∙◌, inl, inr, arith}
 use Rattle.std.proofs.lemmas.Bool.{cases_eq}
 use Rattle.lines.specs.Sums.{sum_below}
 use Rattle.lines.proofs.Sums.{sum_same, sum_next}
@@ -9,17 +9,6 @@ use Rattle.padding.specs.Padding.{RowVisited}
 pub record Visiting (j lack left : ℕ) (row row' lacks lacks' : ℕ → ℕ) : Type 0 where
   pub visited : RowVisited j lack row row' lacks lacks'
   pub spent : left + sum_below j (λ x. row' x - row x) ≡ lack
-
-pub no_visit : (lack : ℕ) (row lacks : ℕ → ℕ) → Visiting 0 lack lack row row lacks lacks
-no_visit lack row lacks = record {
-  visited = record {
-    adds = λ k l. absurd (omega arith);
-    lowers = λ k l. absurd (omega arith);
-    row_rest = λ k _. refl;
-    lacks_rest = λ k _. refl;
-  };
-  spent = omega arith;
-}
 
 -- the units u are added at place j
 module _ (j lack left u : ℕ) (row r s lacks d e : ℕ → ℕ) (v : Visiting j lack left row r lacks d) (is : u ≡ min left (d j)) (here : s j ≡ r j + u) (others : (k : ℕ) → (k ≡ j → ⊥) → s k ≡ r k) (lower : e j ≡ d j - u) (other-lacks : (k : ℕ) → (k ≡ j → ⊥) → e k ≡ d k) where

@@ -3,7 +3,6 @@ use Rattle.std.proofs.Common.{◌≡◌, Bool, List, Option, Some, None, refl, a
 use Rattle.std.specs.Bool.{Decides}
 use Rattle.std.specs.Option.{option_eq}
 use Rattle.std.proofs.lemmas.Slice.Eq.{slice_eq-Decides}
-use Rattle.std.proofs.lemmas.Bool.Decides.{same_from_decides}
 use Rattle.schedule.specs.declared.Join.{Join}
 use Rattle.schedule.specs.declared.Mode.{Mode}
 use Rattle.schedule.specs.Equal.{same_join, same_rows, same_mode}
@@ -19,12 +18,12 @@ grant_told (Some x) (Some y) =
     let d = join_told x y in
     ((λ e. ap Some (d.0 e)), λ e. d.1 cc)
 
--- whatever tells whether two rows are the same is what `==` of them answers
-pub rows_told : (xs ys : List (Option Join)) (r : Bool) → Decides r (xs ≡ ys) → r ≡ same_rows xs ys
-rows_told xs ys r d = same_from_decides r (same_rows xs ys) d (slice_eq-Decides grant_told xs ys (same_rows xs ys) refl)
+-- what `==` of two rows answers tells whether they are the same
+pub rows_told : (xs ys : List (Option Join)) (r : Bool) → r ≡ same_rows xs ys → Decides r (xs ≡ ys)
+rows_told = slice_eq-Decides grant_told
 
 -- `==` of two modes is true exactly where they are the same
 pub mode_told : (x y : Mode) → Decides (same_mode x y) (x ≡ y)
 mode_told x y =
-    let rows = slice_eq-Decides grant_told x.row y.row (same_rows x.row y.row) refl in
+    let rows = rows_told x.row y.row (same_rows x.row y.row) refl in
     grind (arith, rows)

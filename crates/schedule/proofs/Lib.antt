@@ -1,6 +1,5 @@
 pub mod Modes
 pub mod Shops
 pub mod Unfolded
-pub mod Lengths
 pub mod Rules
 pub mod Equal

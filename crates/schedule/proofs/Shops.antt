@@ -53,9 +53,6 @@ covered : (x : Tuple) (t : ℕ) → sum_below t (covers x) ≡ min t x.finish - 
 covered x zero = omega arith
 covered x (suc t) = let e = covered x t in grind (arith, nat_tests)
 
-covers_le : (x : Tuple) (k : ℕ) → covers x k ≤ 1
-covers_le x k = grind (arith, nat_tests)
-
 -- only a tuple of job i that covers slot k counts
 works : (x : Tuple) (i k : ℕ) → 0 < cond (eqb x.job i) (covers x k) 0 → Works i k x
 works x i k p = record { mine = grind (arith, nat_tests); begun = grind (arith, nat_tests); going = grind (arith, nat_tests) }

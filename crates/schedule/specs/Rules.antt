@@ -19,7 +19,3 @@ Free m i j = (h : ℕ) (y : Join) → h < i → grant_of m h ≡ Some y → y.do
 pub record Kept (n : ℕ) (m : Mode) (i : ℕ) (x : Join) : Type 0 where
   pub fits : Fitting n m.dwell i x
   pub free : Free m i x.down.0
-
--- so do the grants of the uplinks below k
-abbrev pub KeptBelow : ℕ → Mode → ℕ → Type 0
-KeptBelow n m k = (i : ℕ) (x : Join) → i < k → grant_of m i ≡ Some x → Kept n m i x

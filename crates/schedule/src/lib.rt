@@ -24,6 +24,7 @@ pub struct Mode {
     pub row: [Option<Join>; 16],
 }
 
+// By hand, since a derive would not promise that `==` tells whether two modes are the same.
 impl PartialEq for Mode {
     ghost eq = { same_mode };
 
@@ -46,10 +47,7 @@ impl Mode {
     pub fn grant(&self, up: Uplink) -> Option<Join>
         ensures { result ≡ grant_of self.now up.0 }
     {
-        match self.row.get(usize::from(up.0)) {
-            Some(grant) => *grant,
-            None => None,
-        }
+        self.row.get(usize::from(up.0)).copied().flatten()
     }
 
     // The units that are granted at a crosspoint.
@@ -68,23 +66,15 @@ fn same_row(one: &[Option<Join>; 16], other: &[Option<Join>; 16]) -> bool
     ensures value { result ≡ same_rows one.now other.now }
     ensures same { Decides result (one.now ≡ other.now) }
 {
-    for i in 0..16 {
-        if one[i] != other[i] {
-            return false;
-        }
-    }
-    true
+    one == other
 }
 
-// A start and the dwells after it, if the sum has at most 32 bits.
+// A start and the dwells after it, if the sum has at most 32 bits. Apart from the length, so that the sum is proved without what else that promises.
 fn add_up(start: u32, modes: &[Mode]) -> Option<u32>
-    ensures sum { result ≡ in_32_bits (start + span modes.now) }
-    ensures no_shorter { NoShorter }
-    ensures no_shorter_shop { NoShorterShop }
-    ensures no_shorter_parts { NoShorterParts }
-    ensures unfolds { Unfolds }
+    ensures { result ≡ in_32_bits (start + span modes.now) }
 {
     let mut total = start;
+    // no try_fold, since the total that it leaves needs a proof over its calls
     for mode in modes {
         total = total.checked_add(u32::from(mode.dwell))?;
     }
@@ -108,18 +98,9 @@ fn is_free(mode: &Mode, i: usize, down: Downlink) -> bool
     requires { i ≤ 16 }
     ensures { Decides result (Free mode.now i down.0) }
 {
-    for h in 0..i {
-        let grant = mode.row[h];
-        match grant {
-            Some(join) => {
-                if join.down.0 == down.0 {
-                    return false;
-                }
-            }
-            None => (),
-        }
-    }
-    true
+    mode.row[..i]
+        .iter()
+        .all(|grant| grant.is_none_or(|join| join.down != down))
 }
 
 // Whether a grant of uplink i is for lines below the number of lines, and for some units within the dwell.
@@ -142,19 +123,8 @@ fn keeps_grants(lines: usize, mode: &Mode) -> bool
     ensures kept { result ≡ true → 1 ≤ mode.now.dwell → mode.now.dwell ≤ longest_dwell → Sound lines mode.now }
     ensures sound { Sound lines mode.now → result ≡ true }
 {
-    // the length of a row is known of a slice, and not of a field
-    let row: &[Option<Join>] = &mode.row;
-    for (i, grant) in row.iter().enumerate() {
-        match *grant {
-            Some(join) => {
-                if !keeps_grant(lines, mode, i, join) {
-                    return false;
-                }
-            }
-            None => (),
-        }
-    }
-    true
+    let mut grants = mode.row.iter().enumerate();
+    grants.all(|(i, grant)| grant.is_none_or(|join| keeps_grant(lines, mode, i, join)))
 }
 
 // Whether a mode keeps the rules on so many lines.

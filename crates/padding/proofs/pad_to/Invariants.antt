@@ -1,4 +1,3 @@
-use Rattle.std.proofs.Common.{◌≡◌, length}
 use Rattle.lines.specs.Matrix.{cells}
 use Rattle.owed.specs.Calls.{lines_of, units_of}
 use Rattle.padding.specs.Padding.{listed}
@@ -6,4 +5,4 @@ use Rattle.padding.proofs.Visits.{Visited}
 use Rattle.padding.proofs.pad_to.Given as goal
 
 abbrev pub invariant-loop-i : goal.invariant-loop-i
-invariant-loop-i l = Visited (lines_of l.owed) l.b (units_of l.owed) (cells l.rows) (listed l.lacks) l.i × (length l.rows ≡ 16)
+invariant-loop-i l = Visited (lines_of l.owed) l.b (units_of l.owed) (cells l.row-items) (listed l.lacks) l.i

@@ -1,14 +1,12 @@
-use Rattle.std.proofs.Common.{refl, arith}
-use Rattle.schedule.proofs.Rules.{free_none, free_some}
+use Rattle.std.proofs.Common.{take, rules, tests}
+use Rattle.std.proofs.lemmas.Iterator.{cases_from_all, YieldsList-from_slice}
+use Rattle.schedule.proofs.Rules.{Elsewhere, There, free_told}
 use Rattle.schedule.proofs.is_free.Goals as goal
-use Rattle.schedule.proofs.is_free.Goals.{in-None, in-Some+else-join-down}
-
-pub loop-h-preserved : goal.loop-h-preserved
-loop-h-preserved c =
-    elim c.match-grant.branch [
-      | in-None w ↦ free_none c.args.mode.now c.loop-h.h c.args.down.0 c.loop-h.invariant w.in-None.is
-      | in-Some+else-join-down w ↦ free_some c.args.mode.now c.loop-h.h c.args.down.0 c.loop-h.invariant w.in-Some.join w.in-Some.is w.if-join-down.false
-    ]
 
 pub returns : goal.returns
-returns c = ((λ _ h y l. c.loop-h.invariant h y (omega arith)), λ _. refl)
+returns c =
+    let m = c.args.mode.now in
+    let i = c.args.i in
+    let j = c.args.down.0 in
+    free_told m i j c.all.result
+    (cases_from_all _ _ _ (Elsewhere m i j) (There m i j) c.all.ensures.ran (YieldsList-from_slice (take i m.row) cc) (λ x q k. search (rules, tests)) (λ x q k. search (rules, tests)))

@@ -4,8 +4,6 @@ use Rattle.owed.proofs.matrix.Owed.new.Goals as goal
 
 pub invariant_of-result : goal.invariant_of-result
 invariant_of-result c = record {
-  some_line = omega arith;
-  few_lines = omega arith;
-  limited = omega (arith, zero_busiest c.args.lines _ c.no_units.ensures);
+  limited = omega (arith, zero_busiest c.in_ok-lines.lines.count _ c.no_units.ensures);
   blank = λ i j _. c.no_units.ensures i j;
 }
