@@ -6,7 +6,7 @@ use Rattle.lines.specs.declared.Downlink.{Downlink}
 use Rattle.matching.specs.Supports.{in_rows, Matching, Witness}
 use Rattle.matching.specs.Answers.{mate_of, Unused}
 use Rattle.matching.proofs.Halls.{closed_witness}
-use Rattle.augmenting.specs.Holders.{Within, holder, Apart, Edges, Busy, Idle, Mated, Seated}
+use Rattle.augmenting.specs.Holders.{Holders, Within, holder, Apart, Edges, Busy, Idle, Mated, Seated}
 
 -- ---- rows cut to n lines
 
@@ -21,11 +21,11 @@ cut_to n rows cut w i j l li lj h = w i j l ∙ and_from (in_rows rows i j) (ltb
 
 -- ---- holders
 
-pub edges_none : (rows hs : List ℕ) → ((j : ℕ) → j < 16 → holder hs j ≡ 255) → Edges rows hs
+pub edges_none : (rows : List ℕ) (hs : Holders) → ((j : ℕ) → j < 16 → holder hs j ≡ 16) → Edges rows hs
 edges_none rows hs none j lj l = absurd (omega (arith, none j lj))
 
 -- a search in some of the rows keeps each downlink in the row of its holder
-pub edges_after : (rows some hs hs1 : List ℕ) (up t0 t : ℕ) → ((i j : ℕ) → i < 16 → in_rows some i j ≡ true → in_rows rows i j ≡ true) → Seated some hs hs1 up t0 t → Edges rows hs → Edges rows hs1
+pub edges_after : (rows some : List ℕ) (hs hs1 : Holders) (up t0 t : ℕ) → ((i j : ℕ) → i < 16 → in_rows some i j ≡ true → in_rows rows i j ≡ true) → Seated some hs hs1 up t0 t → Edges rows hs → Edges rows hs1
 edges_after rows some hs hs1 up t0 t part s edges j lj l =
     elim (s.steps j lj) [
       | inl e ↦ (let P : ℕ → Type 0 = λ z. in_rows rows z j ≡ true in subst P (sym e) (edges j lj (omega arith)))
@@ -33,13 +33,13 @@ edges_after rows some hs hs1 up t0 t part s edges j lj l =
     ]
 
 -- it leaves everyone who holds a downlink with one
-pub busy_after : (rows hs hs1 : List ℕ) (up t0 t : ℕ) → Seated rows hs hs1 up t0 t → (u : ℕ) → u < 16 → Busy hs u → Busy hs1 u
+pub busy_after : (rows : List ℕ) (hs hs1 : Holders) (up t0 t : ℕ) → Seated rows hs hs1 up t0 t → (u : ℕ) → u < 16 → Busy hs u → Busy hs1 u
 busy_after rows hs hs1 up t0 t s u lu b =
     let w = s.stays b.0 b.1 (omega (arith, b.2)) in
     (w.0, w.1, w.2 ∙ b.2)
 
 -- and who holds one then is the uplink or held one before
-pub busy_before : (rows hs hs1 : List ℕ) (up t0 t : ℕ) → Seated rows hs hs1 up t0 t → (u : ℕ) → u < 16 → Busy hs1 u → (u ≡ up) ⊎ Busy hs u
+pub busy_before : (rows : List ℕ) (hs hs1 : Holders) (up t0 t : ℕ) → Seated rows hs hs1 up t0 t → (u : ℕ) → u < 16 → Busy hs1 u → (u ≡ up) ⊎ Busy hs u
 busy_before rows hs hs1 up t0 t s u lu b =
     elim (cases_Bool (has t0 b.0)) [
       | inl old ↦ inr (b.0, b.1, sym (s.kept b.0 b.1 old) ∙ b.2)
@@ -52,7 +52,7 @@ busy_before rows hs hs1 up t0 t s u lu b =
 
 -- ---- the ends
 
-module _ (n : ℕ) (rows cut hs : List ℕ) (small : n ≤ 16) (w : Within n rows cut) (edges : Edges cut hs) (ap-art : Apart hs) where
+module _ (n : ℕ) (rows cut : List ℕ) (hs : Holders) (small : n ≤ 16) (w : Within n rows cut) (edges : Edges cut hs) (ap-art : Apart hs) where
   pub matching_right : (mates : List Downlink) → ((u : ℕ) → u < n → Busy hs u) → Mated hs mates → Matching n (in_rows rows) (mate_of mates) × Unused n mates
   matching_right mates busy m =
       let mate : (u : ℕ) (lu : u < n) → mate_of mates u ≡ (busy u lu).0 =

@@ -1,10 +1,12 @@
 -- The steps of a search for an augmenting path. Assumes nothing.
-use Rattle.std.proofs.Common.{◌≡◌, ℕ, ◌<◌, ◌≤◌, true, false, not, ◌⊎◌, List, length, get_or, set, sym, refl, ap, ◌∙◌, subst, inl, inr, arith, get_or-set_other, get_or-set_same}
+use Rattle.std.proofs.Common.{◌≡◌, ℕ, ◌<◌, ◌≤◌, true, false, not, ◌⊎◌, zero, suc, List, replicate, Option, Some, None, length, get_or, set, sym, refl, ap, ◌∙◌, subst, inl, inr, arith, get_or-set_other, get_or-set_same}
 use Rattle.std.proofs.lemmas.Bool.{cases_Bool, cases_eq, both_ways, not-true, not_from_true, not_from_false}
 use Rattle.lines.specs.Sets.{has, In}
+use Rattle.lines.specs.Matrix.{uplink}
+use Rattle.lines.specs.declared.Uplink.{Uplink}
 use Rattle.lines.proofs.Counts.{count_fewer}
 use Rattle.matching.specs.Supports.{in_rows}
-use Rattle.augmenting.specs.Holders.{holder, Picked, Apart, Idle, Tried, untried, Closed, Searched, Seated}
+use Rattle.augmenting.specs.Holders.{Holders, number_or_16, holder, Known, Picked, Apart, Idle, Tried, untried, Closed, Searched, Seated}
 
 -- what is not tried now was not tried before
 not_before : (t0 t : ℕ) → ((j : ℕ) → In t0 j → In t j) → (j : ℕ) → has t j ≡ false → has t0 j ≡ false
@@ -34,11 +36,11 @@ fewer_inside row t0 t t1 d f since = fewer t0 t1 d f.below (all_grows row t0 t t
 pub fewer_after : (row t t1 t2 d : ℕ) → Picked row t t1 d → ((k : ℕ) → In t1 k → In t2 k) → untried t2 < untried t
 fewer_after row t t1 t2 d f on = fewer t t2 d f.below (λ k h. on k (all_grows row t t t1 d f (λ _ x. x) k h)) f.new (on d f.now)
 
-pub closed_start : (rows hs : List ℕ) (t : ℕ) → Closed rows hs t t
+pub closed_start : (rows : List ℕ) (hs : Holders) (t : ℕ) → Closed rows hs t t
 closed_start rows hs t = record { grows = λ j h. h; held = λ j lt h f. absurd (both_ways (has t j) f h) }
 
 -- the holder of downlink d could not move
-pub closed_more : (rows hs : List ℕ) (row t0 t t1 t2 d : ℕ) → Closed rows hs t0 t → Picked row t t1 d → holder hs d < 16 → Searched rows hs (holder hs d) t1 t2 → Closed rows hs t0 t2
+pub closed_more : (rows : List ℕ) (hs : Holders) (row t0 t t1 t2 d : ℕ) → Closed rows hs t0 t → Picked row t t1 d → holder hs d < 16 → Searched rows hs (holder hs d) t1 t2 → Closed rows hs t0 t2
 closed_more rows hs row t0 t t1 t2 d c f ld s =
     let on : (k : ℕ) → In t k → In t2 k = λ k h. s.0.grows k (step_grows row t0 t t1 d f c.grows k h) in
     record {
@@ -55,7 +57,7 @@ closed_more rows hs row t0 t t1 t2 d c f ld s =
     }
 
 -- Downlink d is given up: t1 have been tried, d among them, hs became hs1, and who held d holds another one besides.
-record Cleared (rows hs hs1 : List ℕ) (d t0 t1 : ℕ) : Type 0 where
+record Cleared (rows : List ℕ) (hs hs1 : Holders) (d t0 t1 : ℕ) : Type 0 where
   kept : (j : ℕ) → j < 16 → In t1 j → holder hs1 j ≡ holder hs j
   steps : (j : ℕ) → j < 16 → (holder hs1 j ≡ holder hs j) ⊎ ((holder hs1 j < 16) × (in_rows rows (holder hs1 j) j ≡ true))
   apart : (j k : ℕ) → j < 16 → k < 16 → (d ≡ j → ⊥) → (d ≡ k → ⊥) → holder hs1 j < 16 → holder hs1 j ≡ holder hs1 k → j ≡ k
@@ -63,7 +65,7 @@ record Cleared (rows hs hs1 : List ℕ) (d t0 t1 : ℕ) : Type 0 where
   stays : (j : ℕ) → j < 16 → holder hs j < 16 → (k : ℕ) × (k < 16) × (d ≡ k → ⊥) × (holder hs1 k ≡ holder hs j)
 
 -- a free downlink
-cleared_free : (rows hs : List ℕ) (d t0 t1 : ℕ) → Apart hs → 16 ≤ holder hs d → ((k : ℕ) → In t0 k → In t1 k) → Cleared rows hs hs d t0 t1
+cleared_free : (rows : List ℕ) (hs : Holders) (d t0 t1 : ℕ) → Apart hs → 16 ≤ holder hs d → ((k : ℕ) → In t0 k → In t1 k) → Cleared rows hs hs d t0 t1
 cleared_free rows hs d t0 t1 ap-art free grows =
     record {
       kept = λ j lj h. refl;
@@ -74,7 +76,7 @@ cleared_free rows hs d t0 t1 ap-art free grows =
     }
 
 -- one whose holder got another
-cleared_moved : (rows hs hs1 : List ℕ) (d t0 t1 t2 : ℕ) → d < 16 → Apart hs → holder hs d < 16 → has t0 d ≡ false → In t1 d → ((k : ℕ) → In t0 k → In t1 k)
+cleared_moved : (rows : List ℕ) (hs hs1 : Holders) (d t0 t1 t2 : ℕ) → d < 16 → Apart hs → holder hs d < 16 → has t0 d ≡ false → In t1 d → ((k : ℕ) → In t0 k → In t1 k)
     → Seated rows hs hs1 (holder hs d) t1 t2 → Cleared rows hs hs1 d t0 t1
 cleared_moved rows hs hs1 d t0 t1 t2 ld ap-art lh new now grows s =
     let fresh : (j : ℕ) → j < 16 → (d ≡ j → ⊥) → holder hs1 j ≡ holder hs d → has t1 j ≡ false =
@@ -103,13 +105,13 @@ cleared_moved rows hs hs1 d t0 t1 t2 ld ap-art lh new now grows s =
     }
 
 -- the uplink takes the downlink that is given up
-seated_cleared : (rows hs hs1 : List ℕ) (up d t0 t1 t2 : ℕ) → d < length hs1 → up < 16 → d < 16 → Tried hs up t0 → has t0 d ≡ false → In t1 d → in_rows rows up d ≡ true
+seated_cleared : (rows : List ℕ) (hs hs1 : Holders) (up d t0 t1 t2 : ℕ) → d < length hs1 → up < 16 → d < 16 → Tried hs up t0 → has t0 d ≡ false → In t1 d → in_rows rows up d ≡ true
     → ((k : ℕ) → In t0 k → In t1 k) → ((k : ℕ) → In t1 k → In t2 k) → ((j : ℕ) → j < 16 → has t2 j ≡ false → holder hs1 j ≡ holder hs j)
-    → Cleared rows hs hs1 d t0 t1 → Seated rows hs (set hs1 d up) up t0 t2
+    → Cleared rows hs hs1 d t0 t1 → Seated rows hs (set hs1 d (Some (uplink up))) up t0 t2
 seated_cleared rows hs hs1 up d t0 t1 t2 long lu ld own new now edge grows on used c =
-    let hs2 : List ℕ = set hs1 d up in
-    let at : holder hs2 d ≡ up = get_or-set_same hs1 d up 0 long in
-    let off : (j : ℕ) → (d ≡ j → ⊥) → holder hs2 j ≡ holder hs1 j = λ j ne. get_or-set_other hs1 d j up 0 (λ e. ne (sym e)) in
+    let hs2 : Holders = set hs1 d (Some (uplink up)) in
+    let at : holder hs2 d ≡ up = ap number_or_16 (get_or-set_same hs1 d (Some (uplink up)) None long) in
+    let off : (j : ℕ) → (d ≡ j → ⊥) → holder hs2 j ≡ holder hs1 j = λ j ne. ap number_or_16 (get_or-set_other hs1 d j (Some (uplink up)) None (λ e. ne (sym e))) in
     let here : (j : ℕ) → d ≡ j → holder hs2 j ≡ up = λ j e. ap (holder hs2) (sym e) ∙ at in
     let alone : (k : ℕ) → k < 16 → (d ≡ k → ⊥) → has t0 k ≡ false → holder hs2 k ≡ up → ⊥ =
     λ k lk ne f e.
@@ -160,12 +162,12 @@ seated_cleared rows hs hs1 up d t0 t1 t2 long lu ld own new now edge grows on us
     }
 
 -- what the holder of d holds has been tried
-pub holder_tried : (hs : List ℕ) (row t t1 d : ℕ) → Apart hs → Picked row t t1 d → holder hs d < 16 → Tried hs (holder hs d) t1
+pub holder_tried : (hs : Holders) (row t t1 d : ℕ) → Apart hs → Picked row t t1 d → holder hs d < 16 → Tried hs (holder hs d) t1
 holder_tried hs row t t1 d ap-art f lh j lj e = let P : ℕ → Type 0 = In t1 in subst P (ap-art d j (f.below, lj, lh, sym e)) f.now
 
 -- the uplink takes downlink d, which is free
-pub seated_free : (rows hs : List ℕ) (up t0 t t1 d : ℕ) → length hs ≡ 16 → up < 16 → Apart hs → Tried hs up t0 → Picked (get_or rows up 0) t t1 d → ((k : ℕ) → In t0 k → In t k) → 16 ≤ holder hs d
-    → Seated rows hs (set hs d up) up t0 t1
+pub seated_free : (rows : List ℕ) (hs : Holders) (up t0 t t1 d : ℕ) → length hs ≡ 16 → up < 16 → Apart hs → Tried hs up t0 → Picked (get_or rows up 0) t t1 d → ((k : ℕ) → In t0 k → In t k) → 16 ≤ holder hs d
+    → Seated rows hs (set hs d (Some (uplink up))) up t0 t1
 seated_free rows hs up t0 t t1 d long lu ap-art own f since free =
     let row : ℕ = get_or rows up 0 in
     let grows = all_grows row t0 t t1 d f since in
@@ -173,8 +175,8 @@ seated_free rows hs up t0 t t1 d long lu ap-art own f since free =
     (cleared_free rows hs d t0 t1 ap-art free grows)
 
 -- the uplink takes downlink d, whose holder got another one
-pub seated_moved : (rows hs hs1 : List ℕ) (up t0 t t1 t2 d : ℕ) → length hs1 ≡ 16 → up < 16 → Apart hs → Tried hs up t0 → Picked (get_or rows up 0) t t1 d → ((k : ℕ) → In t0 k → In t k) → holder hs d < 16
-    → Seated rows hs hs1 (holder hs d) t1 t2 → Seated rows hs (set hs1 d up) up t0 t2
+pub seated_moved : (rows : List ℕ) (hs hs1 : Holders) (up t0 t t1 t2 d : ℕ) → length hs1 ≡ 16 → up < 16 → Apart hs → Tried hs up t0 → Picked (get_or rows up 0) t t1 d → ((k : ℕ) → In t0 k → In t k) → holder hs d < 16
+    → Seated rows hs hs1 (holder hs d) t1 t2 → Seated rows hs (set hs1 d (Some (uplink up))) up t0 t2
 seated_moved rows hs hs1 up t0 t t1 t2 d long lu ap-art own f since lh s =
     let row : ℕ = get_or rows up 0 in
     let grows = all_grows row t0 t t1 d f since in
@@ -184,12 +186,23 @@ seated_moved rows hs hs1 up t0 t t1 t2 d long lu ap-art own f since lh s =
 
 -- ---- a search from an uplink that holds nothing
 
-pub idle_tried : (hs : List ℕ) (up t : ℕ) → Idle hs up → Tried hs up t
-idle_tried hs up t idle j lj e = absurd (idle j lj e)
-
 -- it leaves no uplink with two downlinks
-pub apart_after : (rows hs hs1 : List ℕ) (up t0 t : ℕ) → Idle hs up → Seated rows hs hs1 up t0 t → Apart hs1
+pub apart_after : (rows : List ℕ) (hs hs1 : Holders) (up t0 t : ℕ) → Idle hs up → Seated rows hs hs1 up t0 t → Apart hs1
 apart_after rows hs hs1 up t0 t idle s j k w =
     let new : (i : ℕ) → i < 16 → holder hs1 i ≡ up → has t0 i ≡ false =
     λ i li e. elim (cases_Bool (has t0 i)) [ inl h ↦ absurd (idle i li (sym (s.kept i li h) ∙ e)) | inr h ↦ h ] in
     s.apart j k w.0 w.1 w.2 w.3 (λ e. (new j w.0 e, new k w.1 (sym w.3 ∙ e)))
+
+-- and each holder stays one of sixteen
+pub known_after : (hs : Holders) (up d : ℕ) → d < length hs → up < 16 → Known hs → Known (set hs d (Some (uplink up)))
+known_after hs up d long lu known j u is =
+    elim (cases_eq j d) [
+      | inl e ↦ omega (arith, ap number_or_16 (sym (get_or-set_same hs d (Some (uplink up)) None long) ∙ ap (λ k. get_or (set hs d (Some (uplink up))) k None) (sym e) ∙ is))
+      | inr ne ↦ known j u (sym (get_or-set_other hs d j (Some (uplink up)) None ne) ∙ is)
+    ]
+
+-- nobody holds one of n downlinks
+pub no_holder : (n j : ℕ) → get_or (replicate {A = Option Uplink} n None) j None ≡ None
+no_holder zero j = refl
+no_holder (suc n) zero = refl
+no_holder (suc n) (suc j) = no_holder n j

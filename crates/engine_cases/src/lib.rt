@@ -5,36 +5,30 @@
 mod tests {
     use kuhn::Kuhn;
     use layered::Layered;
-    use lines::{Downlink, Place, has_line, lines_below, set_size, united, with_line, without};
-    use matching::{Engine, EngineAnswer, EngineDecline, letter_of};
+    use lines::{
+        Decline, Downlink, Place, has_line, is_empty, lines_below, set_size, united, with_line,
+        without,
+    };
+    use matching::{Engine, EngineAnswer, letter_of};
+    use std::array;
     use std::process::Abort;
     use std::test::Fail;
 
-    fn put(first: &[u16], rows: &mut [u16; 16]) {
-        for i in 0..16 {
-            if i < first.len() {
-                rows[i] = first[i];
-            }
-        }
-    }
-
     // The first rows, and empty ones after them.
     fn support(first: &[u16]) -> [u16; 16] {
-        let mut rows = [0; 16];
-        put(first, &mut rows);
-        rows
+        array::from_fn(|up| first.get(up).copied().unwrap_or(0))
     }
 
     // Each uplink has a downlink of its row, all different, and there is none in the places after them.
     fn is_matching(n: usize, rows: &[u16; 16], mates: &[Downlink; 16]) -> bool {
         let mut used = 0;
-        for up in 0..16 {
-            let down = usize::from(mates[up].0);
+        for (up, (row, mate)) in rows.iter().zip(mates).enumerate() {
+            let down = usize::from(mate.0);
             if up >= n {
                 if down != 255 {
                     return false;
                 }
-            } else if down >= n || !has_line(rows[up], down) || has_line(used, down) {
+            } else if down >= n || !has_line(*row, down) || has_line(used, down) {
                 return false;
             } else {
                 used = with_line(used, down);
@@ -45,16 +39,12 @@ mod tests {
 
     // The rows of the set, all of uplinks below n, hold fewer downlinks below n than it has uplinks.
     fn is_witness(n: usize, rows: &[u16; 16], set: u16) -> bool {
-        let mut downs = 0;
-        for up in 0..16 {
-            if has_line(set, up) {
-                if up >= n {
-                    return false;
-                }
-                downs = united(downs, rows[up]);
-            }
-        }
-        set_size(downs & lines_below(n)) < set_size(set)
+        let downs = rows
+            .iter()
+            .enumerate()
+            .filter(|(up, _)| has_line(set, *up))
+            .fold(0, |downs, (_, row)| united(downs, *row));
+        is_empty(without(set, lines_below(n))) && set_size(downs & lines_below(n)) < set_size(set)
     }
 
     // Whether the engine finds a matching; what it finds is looked at.
@@ -88,26 +78,20 @@ mod tests {
         rows: &[u16],
         mates: &[u16],
     ) -> Result<(), Fail> {
-        match engine.find(rows.len(), support(rows))? {
-            EngineAnswer::Matching(found) => {
-                for up in 0..16 {
-                    let down = if up < mates.len() { mates[up] } else { 255 };
-                    assert_eq!(rt; found[up], Downlink(down));
-                }
-                Ok(())
-            }
-            EngineAnswer::Witness(_) => Err(Fail::new("a witness where there is a matching")),
-        }
+        let expected = array::from_fn(|up| Downlink(mates.get(up).copied().unwrap_or(255)));
+        assert_eq!(rt;
+            engine.find(rows.len(), support(rows))?,
+            EngineAnswer::Matching(expected)
+        );
+        Ok(())
     }
 
     fn blocked<E: Engine>(rt: &impl Abort, engine: &E, rows: &[u16], set: u16) -> Result<(), Fail> {
-        match engine.find(rows.len(), support(rows))? {
-            EngineAnswer::Matching(_) => Err(Fail::new("a matching where there is a witness")),
-            EngineAnswer::Witness(found) => {
-                assert_eq!(rt; found, set);
-                Ok(())
-            },
-        }
+        assert_eq!(rt;
+            engine.find(rows.len(), support(rows))?,
+            EngineAnswer::Witness(set)
+        );
+        Ok(())
     }
 
     // Two uplinks that have only downlink 0 between them are the only witness.
@@ -160,20 +144,15 @@ mod tests {
         [0; 16]
     }
 
-    fn put_single(n: usize, shift: usize, rows: &mut [u16; 16]) {
-        for up in 0..16 {
-            if up < n {
-                let down = up.wrapping_add(shift);
-                rows[up] = with_line(0, if down < n { down } else { down.wrapping_sub(n) });
-            }
-        }
-    }
-
     // The diagonal, turned by some lines: one downlink in each row, all different.
     fn single(n: usize, shift: usize) -> [u16; 16] {
-        let mut rows = [0; 16];
-        put_single(n, shift, &mut rows);
-        rows
+        array::from_fn(|up| {
+            if up < n {
+                with_line(0, up.wrapping_add(shift) % n)
+            } else {
+                0
+            }
+        })
     }
 
     fn shapes(rt: &impl Abort, n: usize) -> Result<(), Fail> {
@@ -218,7 +197,7 @@ mod tests {
     }
 
     // A row, the fuller the greater `fullness` is.
-    fn row(a: u16, b: u16, c: u16, fullness: usize) -> u16 {
+    fn row_of(a: u16, b: u16, c: u16, fullness: usize) -> u16 {
         match fullness {
             0 => a & b & c,
             1 => a & b,
@@ -230,30 +209,28 @@ mod tests {
     // Fills the rows from the generator and answers its state.
     fn fill(state: u64, fullness: usize, rows: &mut [u16; 16]) -> u64 {
         let mut last = state;
-        for up in 0..16 {
+        for row in rows.iter_mut() {
             let a = next(last);
             let b = next(a);
             last = next(b);
-            rows[up] = row(bits(a), bits(b), bits(last), fullness);
+            *row = row_of(bits(a), bits(b), bits(last), fullness);
         }
         last
     }
 
     // Folds what Kuhn's engine finds into a number.
     fn fold(sum: u32, n: usize, rows: [u16; 16]) -> Result<u32, Fail> {
-        let mut sum = sum;
-        if let EngineAnswer::Matching(mates) = Kuhn.find(n, rows)? {
-            for up in 0..16 {
-                if up < n {
-                    sum = sum
-                        .wrapping_mul(31)
-                        .wrapping_add(u32::from(mates[up].0))
+        match Kuhn.find(n, rows)? {
+            EngineAnswer::Matching(mates) => Ok(
+                mates.iter().take(n).fold(sum, |sum, mate| {
+                    sum.wrapping_mul(31)
+                        .wrapping_add(u32::from(mate.0))
                         .wrapping_add(1)
-                        % 65521;
-                }
-            }
+                        % 65521
+                }),
+            ),
+            EngineAnswer::Witness(_) => Ok(sum),
         }
-        Ok(sum)
     }
 
     // On 128 supports of 1 to 16 lines, from thin to full, the engines agree on which of the two there is. How many have a matching, and which one Kuhn's engine finds, was computed by another program.
@@ -276,35 +253,16 @@ mod tests {
         Ok(())
     }
 
-    fn put_junk(n: usize, junk: u16, rows: &mut [u16; 16]) {
+    // The rows with what may stand beyond n lines.
+    fn with_junk(n: usize, junk: u16, rows: &[u16; 16]) -> [u16; 16] {
         let beyond = without(junk, lines_below(n));
-        for up in 0..16 {
-            rows[up] = if up < n {
+        array::from_fn(|up| {
+            if up < n {
                 united(rows[up], beyond)
             } else {
                 junk
-            };
-        }
-    }
-
-    fn same(a: EngineAnswer, b: EngineAnswer) -> bool {
-        match a {
-            EngineAnswer::Witness(x) => match b {
-                EngineAnswer::Witness(y) => x == y,
-                EngineAnswer::Matching(_) => false,
-            },
-            EngineAnswer::Matching(x) => match b {
-                EngineAnswer::Witness(_) => false,
-                EngineAnswer::Matching(y) => {
-                    for up in 0..16 {
-                        if x[up] != y[up] {
-                            return false;
-                        }
-                    }
-                    true
-                }
-            },
-        }
+            }
+        })
     }
 
     // Rows and bits from n up change nothing.
@@ -317,30 +275,27 @@ mod tests {
             let n = case % 16 + 1;
             let by_paths = Kuhn.find(n, rows)?;
             let by_layers = Layered.find(n, rows)?;
-            put_junk(n, bits(next(state)), &mut rows);
-            assert!(rt; same(Kuhn.find(n, rows)?, by_paths));
-            assert!(rt; same(Layered.find(n, rows)?, by_layers));
+            let more = with_junk(n, bits(next(state)), &rows);
+            assert_eq!(rt; Kuhn.find(n, more)?, by_paths);
+            assert_eq!(rt; Layered.find(n, more)?, by_layers);
         }
         Ok(())
     }
 
-    fn declined<E: Engine>(rt: &impl Abort, engine: &E, n: usize) -> Result<(), Fail> {
-        match engine.find(n, full()) {
-            Ok(_) => Err(Fail::new("an answer for lines outside 1 to 16")),
-            Err(e) => {
-                assert_eq!(rt; e.number(), 1);
-                assert_eq!(rt; e.place(), Place::Nowhere);
-                Ok(())
-            }
-        }
+    fn declined<E: Engine>(rt: &impl Abort, engine: &E, n: usize) {
+        let e = engine
+            .find(n, full())
+            .expect_err(rt, "an answer for lines outside 1 to 16");
+        assert_eq!(rt; e.number(), 1);
+        assert_eq!(rt; e.place(), Place::Nowhere);
     }
 
     #[test]
-    fn lines_outside(rt: HostRuntime) -> Result<(), Fail> {
-        declined(&rt, &Kuhn, 0)?;
-        declined(&rt, &Kuhn, 17)?;
-        declined(&rt, &Layered, 0)?;
-        declined(&rt, &Layered, 17)
+    fn lines_outside(rt: HostRuntime) {
+        declined(&rt, &Kuhn, 0);
+        declined(&rt, &Kuhn, 17);
+        declined(&rt, &Layered, 0);
+        declined(&rt, &Layered, 17);
     }
 
     #[test]

@@ -4,11 +4,11 @@ use Rattle.std.proofs.lemmas.Bool.{cases_eq}
 use Rattle.lines.specs.Sets.{has, In}
 use Rattle.lines.proofs.Bits.{has_zero}
 use Rattle.matching.specs.Supports.{in_rows, Witness}
-use Rattle.augmenting.specs.Holders.{Within, holder, Apart, Edges, Idle, Searched}
+use Rattle.augmenting.specs.Holders.{Holders, Within, holder, Apart, Edges, Idle, Searched}
 use Rattle.kuhn.specs.Stuck.{Stuck}
 use Rattle.augmenting.proofs.Ends.{cut_from, witness_right}
 
-pub stuck_witness : (n : ℕ) (rows cut hs : List ℕ) (k t set : ℕ) → n ≤ 16 → Within n rows cut → Edges cut hs → Apart hs → k < n → Idle hs k → Searched cut hs k 0 t → Stuck hs k t set → Witness n (in_rows rows) (has set)
+pub stuck_witness : (n : ℕ) (rows cut : List ℕ) (hs : Holders) (k t set : ℕ) → n ≤ 16 → Within n rows cut → Edges cut hs → Apart hs → k < n → Idle hs k → Searched cut hs k 0 t → Stuck hs k t set → Witness n (in_rows rows) (has set)
 stuck_witness n rows cut hs k t set small w edges ap-art lk idle s st =
     let tried : (u j : ℕ) → u < n → In set u → in_rows cut u j ≡ true → In t j =
     λ u j lu h. elim (cases_eq k u) [

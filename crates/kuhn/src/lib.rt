@@ -1,15 +1,15 @@
 // Kuhn's engine: uplinks rising, each by a search for an augmenting path with its downlinks rising.
 #![tactic(auto)]
 
-ghost use Rattle.std.specs.Prelude.{◌≡◌, ◌≤◌, Some, None, MatchResult};
+ghost use Rattle.std.specs.Prelude.{◌≡◌, Some, None, MatchResult};
 ghost use Rattle.matching.specs.Supports.{in_rows, Settled};
 ghost use Rattle.matching.specs.Answers.{Right, find_decline};
 ghost use Rattle.kuhn.specs.Stuck.{Stuck};
 ghost use Rattle.std.proofs.Common.{rules};
 
 use augmenting::{Pairing, within};
-use lines::{Uplink, with_line};
-use matching::{Engine, EngineAnswer, EngineDecline, LETTER_K, Letter};
+use lines::{Lines, Uplink, with_line};
+use matching::{Engine, EngineAnswer, EngineDecline};
 
 #[derive(Clone, Copy)]
 pub struct Kuhn;
@@ -21,12 +21,13 @@ fn stuck_with(pairing: &Pairing, up: usize, tried: u16) -> u16
     with_line(pairing.holders_of(tried), up)
 }
 
-fn answer(n: usize, rows: [u16; 16]) -> EngineAnswer
-    requires { n ≤ 16 }
-    ensures { Right n rows result }
+fn answer(lines: Lines, rows: [u16; 16]) -> EngineAnswer
+    ensures { Right lines.count rows result }
 {
+    let n = lines.count();
     let cut = within(n, rows);
     let mut pairing = Pairing::none();
+    // the number is the uplink's, and no place of an array
     for up in 0..n {
         let mut tried = 0;
         if !pairing.augment(&cut, Uplink(up as u16), &mut tried) {
@@ -37,27 +38,22 @@ fn answer(n: usize, rows: [u16; 16]) -> EngineAnswer
 }
 
 impl Engine for Kuhn {
-    type Letter = Letter<75>;
+    const LETTER: char = 'K';
 
-    const LETTER: Letter<75> = LETTER_K;
-
-    ghost letter = { 75 };
+    ghost LETTER = { 75 };
 
     ghost may = { Right };
 
-    ghost fixed = { Prim.search rules };
-
     ghost right = { Prim.search rules };
 
+    // The same two lines in each engine: to share them, every engine would need a method more.
     fn find(&self, n: usize, rows: [u16; 16]) -> Result<EngineAnswer, EngineDecline> {
-        if n == 0 || n > 16 {
-            return Err(EngineDecline::Lines);
-        }
-        Ok(answer(n, rows))
+        let lines = Lines::new(n).ok_or(EngineDecline::Lines)?;
+        Ok(answer(lines, rows))
     }
 }
 
-// Whether the rows have a matching: exactly one of a matching and a witness exists.
+// Whether the rows have a matching: exactly one of a matching and a witness exists. It takes no engine, so it shows that one of the two exists for every support.
 pub fn has_matching(n: usize, rows: [u16; 16]) -> Result<bool, EngineDecline>
     ensures { MatchResult result (λ b. (find_decline n ≡ None) × Settled n (in_rows rows) b) (λ e. find_decline n ≡ Some e) }
 {

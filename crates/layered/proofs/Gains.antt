@@ -4,23 +4,23 @@ use Rattle.std.proofs.lemmas.Bool.{cases_eq, cases_Bool, both_ways}
 use Rattle.lines.specs.Sets.{has, In}
 use Rattle.lines.proofs.Bits.{has_zero}
 use Rattle.matching.specs.Supports.{in_rows}
-use Rattle.augmenting.specs.Holders.{holder, Busy, Idle, Closed, Searched, Seated}
+use Rattle.augmenting.specs.Holders.{Holders, holder, Busy, Idle, Closed, Searched, Seated}
 use Rattle.augmenting.proofs.Seats.{closed_start}
 use Rattle.augmenting.proofs.Ends.{busy_after, busy_before}
 use Rattle.layered.specs.Layers.{Roots, Leads, Moved, Round}
 
 -- the searches from the roots below b all failed, and t have been tried
-pub record Failed (steps hs : List ℕ) (roots b t : ℕ) : Type 0 where
+pub record Failed (steps : List ℕ) (hs : Holders) (roots b t : ℕ) : Type 0 where
   pub closed : Closed steps hs 0 t
   pub tried : (u : ℕ) → u < b → In roots u → (k : ℕ) → in_rows steps u k ≡ true → In t k
 
 -- the searches from the roots below b are done: hs became hs1
-pub record Turn (steps hs hs1 : List ℕ) (roots b t : ℕ) : Type 0 where
+pub record Turn (steps : List ℕ) (hs hs1 : Holders) (roots b t : ℕ) : Type 0 where
   pub moved : Moved steps hs hs1
   pub only : (u : ℕ) → u < 16 → Busy hs1 u → ((u < b) × In roots u) ⊎ (Busy hs u)
   pub so_far : ((hs1 ≡ hs) × Failed steps hs roots b t) ⊎ ((u : ℕ) × (u < 16) × In roots u × Busy hs1 u)
 
-pub turn_start : (steps hs : List ℕ) (roots : ℕ) → Turn steps hs hs roots 0 0
+pub turn_start : (steps : List ℕ) (hs : Holders) (roots : ℕ) → Turn steps hs hs roots 0 0
 turn_start steps hs roots =
     record {
       moved = record { edges = λ j lj. inl refl; keeps = λ u lu h. h };
@@ -29,12 +29,12 @@ turn_start steps hs roots =
     }
 
 -- a root before its search holds nothing
-pub still_idle : (steps hs hs1 : List ℕ) (roots b t : ℕ) → b < 16 → Roots hs roots → In roots b → Turn steps hs hs1 roots b t → Idle hs1 b
+pub still_idle : (steps : List ℕ) (hs hs1 : Holders) (roots b t : ℕ) → b < 16 → Roots hs roots → In roots b → Turn steps hs hs1 roots b t → Idle hs1 b
 still_idle steps hs hs1 roots b t lb idle is s j lj e =
     elim (s.only b lb (j, lj, e)) [ inl w ↦ omega (arith, w.0) | inr w ↦ (idle b is).1 w.0 w.1 w.2 ]
 
 -- b is no root
-pub turn_skip : (steps hs hs1 : List ℕ) (roots b t : ℕ) → has roots b ≡ false → Turn steps hs hs1 roots b t → Turn steps hs hs1 roots (b + 1) t
+pub turn_skip : (steps : List ℕ) (hs hs1 : Holders) (roots b t : ℕ) → has roots b ≡ false → Turn steps hs hs1 roots b t → Turn steps hs hs1 roots (b + 1) t
 turn_skip steps hs hs1 roots b t out s =
     record {
       moved = s.moved;
@@ -53,7 +53,7 @@ turn_skip steps hs hs1 roots b t out s =
     }
 
 -- b is a root that got a downlink
-pub turn_found : (steps hs hs1 hs2 : List ℕ) (roots b t t2 : ℕ) → b < 16 → In roots b → Seated steps hs1 hs2 b t t2 → Turn steps hs hs1 roots b t → Turn steps hs hs2 roots (b + 1) t2
+pub turn_found : (steps : List ℕ) (hs hs1 hs2 : Holders) (roots b t t2 : ℕ) → b < 16 → In roots b → Seated steps hs1 hs2 b t t2 → Turn steps hs hs1 roots b t → Turn steps hs hs2 roots (b + 1) t2
 turn_found steps hs hs1 hs2 roots b t t2 lb is w s =
     record {
       moved = record {
@@ -71,7 +71,7 @@ turn_found steps hs hs1 hs2 roots b t t2 lb is w s =
     }
 
 -- b is a root that got none
-pub turn_failed : (steps hs hs1 : List ℕ) (roots b t t2 : ℕ) → Searched steps hs1 b t t2 → Turn steps hs hs1 roots b t → Turn steps hs hs1 roots (b + 1) t2
+pub turn_failed : (steps : List ℕ) (hs hs1 : Holders) (roots b t t2 : ℕ) → Searched steps hs1 b t t2 → Turn steps hs hs1 roots b t → Turn steps hs hs1 roots (b + 1) t2
 turn_failed steps hs hs1 roots b t t2 w s =
     record {
       moved = s.moved;
@@ -80,7 +80,7 @@ turn_failed steps hs hs1 roots b t t2 w s =
         | inr g ↦ inr g
         | inl f ↦
             let c = f.1.closed in
-            let P : List ℕ → Type 0 = λ x. Searched steps x b t t2 in
+            let P : Holders → Type 0 = λ x. Searched steps x b t t2 in
             let w0 : Searched steps hs b t t2 = subst P f.0 w in
             inl (
               f.0,
@@ -102,7 +102,7 @@ turn_failed steps hs hs1 roots b t t2 w s =
     }
 
 -- all roots are done
-pub round_end : (steps hs hs1 : List ℕ) (roots b t : ℕ) → 16 ≤ b → Roots hs roots → Leads steps hs roots → Turn steps hs hs1 roots b t → Round steps hs hs1 roots
+pub round_end : (steps : List ℕ) (hs hs1 : Holders) (roots b t : ℕ) → 16 ≤ b → Roots hs roots → Leads steps hs roots → Turn steps hs hs1 roots b t → Round steps hs hs1 roots
 round_end steps hs hs1 roots b t ge idle leads s =
     record {
       moved = s.moved;

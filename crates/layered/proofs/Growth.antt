@@ -4,12 +4,12 @@ use Rattle.std.proofs.lemmas.Bool.{cases_Bool, both_ways, and_from, and_parts, a
 use Rattle.lines.specs.Sets.{has, In}
 use Rattle.lines.proofs.Bits.{has_zero}
 use Rattle.matching.specs.Supports.{in_rows}
-use Rattle.augmenting.specs.Holders.{holder, Apart, Busy, untried}
+use Rattle.augmenting.specs.Holders.{Holders, holder, Apart, Busy, untried}
 use Rattle.augmenting.proofs.Seats.{fewer}
-use Rattle.layered.specs.Layers.{Roots, Stepped, Followed, Layering}
+use Rattle.layered.specs.Layers.{Roots, Stepped, Followed, Leading, Ended}
 
 -- The layers so far: layer is the last one of uplinks, and seen are the downlinks before it.
-pub record Growing (rows hs : List ℕ) (roots : ℕ) (steps : List ℕ) (layer reached seen : ℕ) : Type 0 where
+pub record Growing (rows : List ℕ) (hs : Holders) (roots : ℕ) (steps : List ℕ) (layer reached seen : ℕ) : Type 0 where
   pub part : (i j : ℕ) → i < 16 → in_rows steps i j ≡ true → in_rows rows i j ≡ true
   pub start : (u : ℕ) → In roots u → In reached u
   pub last : (u : ℕ) → In layer u → In reached u
@@ -23,7 +23,7 @@ pub record Growing (rows hs : List ℕ) (roots : ℕ) (steps : List ℕ) (layer 
 none : (x j : ℕ) → x ≡ 0 → has x j ≡ true → ⊥
 none x j e h = both_ways (has x j) (ap (λ z. has z j) e ∙ has_zero j) h
 
-pub growing_start : (rows hs steps : List ℕ) (roots : ℕ) → Roots hs roots → ((u : ℕ) → u < 16 → get_or steps u 0 ≡ 0) → Growing rows hs roots steps roots roots 0
+pub growing_start : (rows : List ℕ) (hs : Holders) (steps : List ℕ) (roots : ℕ) → Roots hs roots → ((u : ℕ) → u < 16 → get_or steps u 0 ≡ 0) → Growing rows hs roots steps roots roots 0
 growing_start rows hs steps roots idle zero-steps =
     record {
       part = λ i j li h. absurd (none (get_or steps i 0) j (zero-steps i li) h);
@@ -37,7 +37,7 @@ growing_start rows hs steps roots idle zero-steps =
       forced = λ t f j lj h. absurd (none 0 j refl h);
     }
 
-module _ (rows hs : List ℕ) (roots : ℕ) (steps steps1 : List ℕ) (layer reached seen next : ℕ)
+module _ (rows : List ℕ) (hs : Holders) (roots : ℕ) (steps steps1 : List ℕ) (layer reached seen next : ℕ)
     (g : Growing rows hs roots steps layer reached seen) (s : Stepped rows layer seen steps steps1 next) where
   -- a step that there was is still there
   older : (u k : ℕ) → u < 16 → in_rows steps u k ≡ true → in_rows steps1 u k ≡ true
@@ -96,26 +96,21 @@ module _ (rows hs : List ℕ) (roots : ℕ) (steps steps1 : List ℕ) (layer rea
   from_after u h = (let w = g.origin u h in elim w.1 [ inl r ↦ inl r | inr x ↦ inr (w.0, (x.0, x.1, x.3)) ])
 
   -- nothing comes next
-  pub layering_closed : ((k : ℕ) → has next k ≡ false) → Layering rows hs roots steps1 reached false
-  layering_closed empty =
+  pub layers_ended : ((k : ℕ) → has next k ≡ false) → Ended rows hs roots reached
+  layers_ended empty =
       record {
-        part = part_after;
         start = g.start;
         from = from_after;
-        closed = λ _ u j lu lj h e. elim (seen_or_next u j lu h e) [ inl old ↦ g.held j lj old | inr new ↦ absurd (both_ways (has next j) (empty j) new) ];
-        leads = λ e. absurd (both_ways false refl e);
+        closed = λ u j lu lj h e. elim (seen_or_next u j lu h e) [ inl old ↦ g.held j lj old | inr new ↦ absurd (both_ways (has next j) (empty j) new) ];
       }
 
   -- a free downlink comes next
-  pub layering_found : (held x k : ℕ) → ((j : ℕ) → has held j ≡ (ltb j 16 && ltb (holder hs j) 16)) → ((j : ℕ) → has x j ≡ (has next j && not (has held j))) → k < 16 → In x k → Layering rows hs roots steps1 reached true
-  layering_found held x k is_held_lem is_x lk h =
+  pub layers_lead : (held x k : ℕ) → ((j : ℕ) → has held j ≡ (ltb j 16 && ltb (holder hs j) 16)) → ((j : ℕ) → has x j ≡ (has next j && not (has held j))) → k < 16 → In x k → Leading rows hs roots steps1
+  layers_lead held x k is_held_lem is_x lk h =
       let both = and_parts (has next k) (not (has held k)) (sym (is_x k) ∙ h) in
       record {
         part = part_after;
-        start = g.start;
-        from = from_after;
-        closed = λ e. absurd (both_ways true e refl);
-        leads = λ _ t f. (k, lk, free k lk (sym (is_held_lem k) ∙ not-true (has held k) both.1), next_forced t f k both.0);
+        leads = λ t f. (k, lk, free k lk (sym (is_held_lem k) ∙ not-true (has held k) both.1), next_forced t f k both.0);
       }
     where
       free : (j : ℕ) → j < 16 → (ltb j 16 && ltb (holder hs j) 16) ≡ false → 16 ≤ holder hs j

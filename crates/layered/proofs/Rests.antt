@@ -1,14 +1,14 @@
 -- What is left after a round. Assumes nothing.
 use Rattle.std.proofs.Common.{◌≡◌, ℕ, ◌<◌, ◌≤◌, true, false, not, ◌&&◌, ltb, List, sym, ap, ◌∙◌, subst, inl, inr, arith}
-use Rattle.std.proofs.lemmas.Bool.{cases_Bool, both_ways, and_from, and_parts, and_cases, not-true, not-false, lt-ltb, ltb-true}
+use Rattle.std.proofs.lemmas.Bool.{cases_Bool, both_ways, and_from, and_parts, and_cases, not-true, not-false, lt-ltb}
 use Rattle.lines.specs.Sets.{has, In}
 use Rattle.lines.proofs.Counts.{count_fewer}
 use Rattle.matching.specs.Supports.{in_rows, Witness}
-use Rattle.augmenting.specs.Holders.{Within, holder, Apart, Edges, Busy, Idle}
-use Rattle.augmenting.proofs.Ends.{cut_from, edges_none, witness_right}
+use Rattle.augmenting.specs.Holders.{Holders, Within, holder, Apart, Edges, Busy, Idle}
+use Rattle.augmenting.proofs.Ends.{cut_from, witness_right}
 use Rattle.layered.specs.Layers.{members, Round, Left, Gained, Ended}
 
-pub edges_moved : (cut steps hs hs1 : List ℕ) (roots : ℕ) → ((i j : ℕ) → i < 16 → in_rows steps i j ≡ true → in_rows cut i j ≡ true) → Round steps hs hs1 roots → Edges cut hs → Edges cut hs1
+pub edges_moved : (cut steps : List ℕ) (hs hs1 : Holders) (roots : ℕ) → ((i j : ℕ) → i < 16 → in_rows steps i j ≡ true → in_rows cut i j ≡ true) → Round steps hs hs1 roots → Edges cut hs → Edges cut hs1
 edges_moved cut steps hs hs1 roots part r edges j lj l =
     elim (r.moved.edges j lj) [
       | inl e ↦ (let P : ℕ → Type 0 = λ z. in_rows cut z j ≡ true in subst P (sym e) (edges j lj (omega arith)))
@@ -16,7 +16,7 @@ edges_moved cut steps hs hs1 roots part r edges j lj l =
     ]
 
 -- held are the uplinks that hold one of all downlinks, and rest are the others of ups
-pub left_over : (hs : List ℕ) (ups all held rest : ℕ) → (((k : ℕ) → has all k ≡ (ltb k 16 && ltb k 16)))
+pub left_over : (hs : Holders) (ups all held rest : ℕ) → (((k : ℕ) → has all k ≡ (ltb k 16 && ltb k 16)))
     → ((u : ℕ) → In held u → (u < 16) × ((j : ℕ) × (j < 16) × In all j × (holder hs j ≡ u))) → ((j : ℕ) → j < 16 → In all j → holder hs j < 16 → In held (holder hs j))
     → ((k : ℕ) → has rest k ≡ (has ups k && not (has held k))) → ((u : ℕ) → In ups u → u < 16) → Left hs ups rest
 left_over hs ups all held rest is_all from into is-rest lines =
@@ -37,21 +37,12 @@ left_over hs ups all held rest is_all from into is-rest lines =
     }
 
 -- idle are just the uplinks below n that hold nothing
-pub record Tally (n : ℕ) (cut hs : List ℕ) (idle : ℕ) : Type 0 where
+pub record Tally (n : ℕ) (cut : List ℕ) (hs : Holders) (idle : ℕ) : Type 0 where
   pub edges : Edges cut hs
   pub none : (u : ℕ) → In idle u → (u < n) × Idle hs u
   pub some : (u : ℕ) → u < n → has idle u ≡ false → Busy hs u
 
-pub tally_start : (n : ℕ) (cut hs : List ℕ) (idle : ℕ) → ((j : ℕ) → j < 16 → holder hs j ≡ 255) → ((k : ℕ) → has idle k ≡ (ltb k n && ltb k 16)) → n ≤ 16 → Tally n cut hs idle
-tally_start n cut hs idle free is-idle small =
-    record {
-      edges = edges_none cut hs free;
-      none = λ u h. (let both = and_parts (ltb u n) (ltb u 16) (sym (is-idle u) ∙ h) in
-          (ltb-true u n both.0, λ j lj e. omega (arith, free j lj, ltb-true u 16 both.1)));
-      some = λ u lu out. absurd (both_ways (has idle u) out (is-idle u ∙ and_from (ltb u n) (ltb u 16) (lt-ltb u n lu) (lt-ltb u 16 (omega arith))));
-    }
-
-pub tally_more : (n : ℕ) (cut hs hs1 : List ℕ) (idle rest : ℕ) → n ≤ 16 → Tally n cut hs idle → Gained cut hs hs1 idle rest → Tally n cut hs1 rest
+pub tally_more : (n : ℕ) (cut : List ℕ) (hs hs1 : Holders) (idle rest : ℕ) → n ≤ 16 → Tally n cut hs idle → Gained cut hs hs1 idle rest → Tally n cut hs1 rest
 tally_more n cut hs hs1 idle rest small t g =
     record {
       edges = edges_moved cut g.steps hs hs1 idle g.part g.round t.edges;
@@ -63,7 +54,7 @@ tally_more n cut hs hs1 idle rest small t g =
     }
 
 -- the round gained
-pub fewer_idle : (cut hs hs1 : List ℕ) (idle rest : ℕ) → Gained cut hs hs1 idle rest → members rest < members idle
+pub fewer_idle : (cut : List ℕ) (hs hs1 : Holders) (idle rest : ℕ) → Gained cut hs hs1 idle rest → members rest < members idle
 unfolding members
 fewer_idle cut hs hs1 idle rest g =
     let w = g.round.gain in
@@ -72,7 +63,7 @@ fewer_idle cut hs hs1 idle rest g =
     (elim (cases_Bool (has rest w.0)) [ inl is ↦ absurd ((g.left.idle w.0 is).1 b.0 b.1 b.2) | inr isnt ↦ isnt ]) w.2
 
 -- no free downlink was reached: the reached uplinks are a witness
-pub reached_witness : (n : ℕ) (rows cut hs : List ℕ) (idle reached k : ℕ) → n ≤ 16 → Within n rows cut → Apart hs → Tally n cut hs idle → In idle k → Ended cut hs idle reached → Witness n (in_rows rows) (has reached)
+pub reached_witness : (n : ℕ) (rows cut : List ℕ) (hs : Holders) (idle reached k : ℕ) → n ≤ 16 → Within n rows cut → Apart hs → Tally n cut hs idle → In idle k → Ended cut hs idle reached → Witness n (in_rows rows) (has reached)
 reached_witness n rows cut hs idle reached k small w ap-art t is l =
     let inside : (u : ℕ) → In reached u → u < n =
     λ u h. elim (l.from u h) [

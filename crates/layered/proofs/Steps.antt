@@ -44,10 +44,11 @@ stepping_skip rows layer seen steps0 steps next b out s =
 
 -- uplink b is in the layer, and takes the steps v
 pub stepping_take : (rows : List ℕ) (layer seen : ℕ) (steps0 steps : List ℕ) (next next1 b v : ℕ) → b < length steps → In layer b
-    → ((k : ℕ) → has v k ≡ (in_rows rows b k && not (has seen k))) → ((k : ℕ) → has next1 k ≡ (has next k || has (get_or (set steps b v) b 0) k))
+    → ((k : ℕ) → has v k ≡ (in_rows rows b k && not (has seen k))) → ((k : ℕ) → has next1 k ≡ (has next k || has v k))
     → Stepping rows layer seen steps0 steps next b → Stepping rows layer seen steps0 (set steps b v) next1 (b + 1)
 stepping_take rows layer seen steps0 steps next next1 b v long is is-v is-next s =
     let at : get_or (set steps b v) b 0 ≡ v = get_or-set_same steps b v 0 long in
+    let is-step : (k : ℕ) → has next1 k ≡ (has next k || in_rows (set steps b v) b k) = λ k. is-next k ∙ ap (λ z. has next k || has z k) (sym at) in
     let off : (u : ℕ) → (u ≡ b → ⊥) → get_or (set steps b v) u 0 ≡ get_or steps u 0 = λ u ne. get_or-set_other steps b u v 0 ne in
     let here : (u k : ℕ) → u ≡ b → in_rows (set steps b v) u k ≡ in_rows (set steps b v) b k = λ u k e. ap (λ z. in_rows (set steps b v) z k) e in
     record {
@@ -57,10 +58,10 @@ stepping_take rows layer seen steps0 steps next next1 b v long is is-v is-next s
         | inr ne ↦ ap (λ z. has z k) (off u ne) ∙ s.row u (omega arith) h k
       ];
       into = λ u lu h k e. elim (cases_eq u b) [
-        | inl same ↦ is-next k ∙ or_right (has next k) (in_rows (set steps b v) b k) (sym (here u k same) ∙ e)
-        | inr ne ↦ is-next k ∙ or_left (has next k) (in_rows (set steps b v) b k) (s.into u (omega arith) h k (ap (λ z. has z k) (sym (off u ne)) ∙ e))
+        | inl same ↦ is-step k ∙ or_right (has next k) (in_rows (set steps b v) b k) (sym (here u k same) ∙ e)
+        | inr ne ↦ is-step k ∙ or_left (has next k) (in_rows (set steps b v) b k) (s.into u (omega arith) h k (ap (λ z. has z k) (sym (off u ne)) ∙ e))
       ];
-      from = λ k h. elim (or_cases (has next k) (in_rows (set steps b v) b k) (sym (is-next k) ∙ h)) [
+      from = λ k h. elim (or_cases (has next k) (in_rows (set steps b v) b k) (sym (is-step k) ∙ h)) [
         | inl old ↦ (let w = s.from k old in (w.0, omega (arith, w.1), w.2, ap (λ z. has z k) (off w.0 (λ e. omega (arith, w.1))) ∙ w.3))
         | inr new ↦ (b, omega arith, is, new)
       ];

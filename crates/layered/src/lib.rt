@@ -8,28 +8,24 @@ mod layers;
 mod rounds;
 
 use crate::rounds::answer;
-use matching::{Engine, EngineAnswer, EngineDecline, LETTER_H, Letter};
+use lines::Lines;
+use matching::{Engine, EngineAnswer, EngineDecline};
 
 #[derive(Clone, Copy)]
 pub struct Layered;
 
 impl Engine for Layered {
-    type Letter = Letter<72>;
+    const LETTER: char = 'H';
 
-    const LETTER: Letter<72> = LETTER_H;
-
-    ghost letter = { 72 };
+    ghost LETTER = { 72 };
 
     ghost may = { Right };
 
-    ghost fixed = { Prim.search rules };
-
     ghost right = { Prim.search rules };
 
+    // The same two lines in each engine: to share them, every engine would need a method more.
     fn find(&self, n: usize, rows: [u16; 16]) -> Result<EngineAnswer, EngineDecline> {
-        if n == 0 || n > 16 {
-            return Err(EngineDecline::Lines);
-        }
-        Ok(answer(n, rows))
+        let lines = Lines::new(n).ok_or(EngineDecline::Lines)?;
+        Ok(answer(lines, rows))
     }
 }

@@ -5,11 +5,12 @@ ghost use Rattle.std.specs.Prelude.{◌≡◌, ℕ, Some, None, MatchResult};
 ghost use Rattle.matching.specs.Supports.{in_rows, Settled};
 ghost use Rattle.matching.specs.Answers.{May, AllRight, Right, NotBoth, find_decline, number, place};
 
-use lines::{Downlink, Place};
+use lines::{Decline, Downlink, Place};
 
-// A downlink for each uplink, or a set of uplinks whose rows hold too few downlinks for that.
-#[derive(Clone, Copy, Debug)]
+// A downlink for each uplink, or a set of uplinks whose rows hold too few downlinks for that. Both are answers to the same question, and neither is a failure.
+#[derive(Clone, Copy, PartialEq, Eq, Debug)]
 pub enum EngineAnswer {
+    // An array of sixteen is copied with no length beside it; the places past the last uplink hold Downlink(255), a number that no line has.
     Matching([Downlink; 16]),
     Witness(u16),
 }
@@ -20,75 +21,45 @@ pub enum EngineDecline {
     Lines,
 }
 
-impl EngineDecline {
-    pub fn number(self) -> u16
-        ensures { result ≡ number self }
-    {
-        match self {
+impl Decline for EngineDecline {
+    ghost number = { number };
+
+    ghost place = { place };
+
+    fn number(&self) -> u16 {
+        match *self {
             EngineDecline::Lines => 1,
         }
     }
 
-    pub fn place(self) -> Place
-        ensures { result ≡ place self }
-    {
-        match self {
+    fn place(&self) -> Place {
+        match *self {
             EngineDecline::Lines => Place::Nowhere,
         }
     }
 }
 
-// A type whose values all show one letter.
-pub trait Mark {
-    ghost code: { Self → ℕ };
-
-    fn shown(self) -> char
-        ensures { result ≡ code self };
-}
-
-// The letter of code C.
-#[derive(Clone, Copy)]
-pub struct Letter<const C: u32> {
-    code: char,
-    ghost is: { code ≡ C },
-}
-
-pub const LETTER_K: Letter<75> = Letter { code: 'K' };
-
-pub const LETTER_H: Letter<72> = Letter { code: 'H' };
-
-impl<const C: u32> Mark for Letter<C> {
-    ghost code = { λ m. m.code };
-
-    fn shown(self) -> char {
-        self.code
-    }
-}
-
 pub trait Engine {
-    type Letter: Mark + Copy;
+    // The letter that tells it from other engines.
+    const LETTER: char;
 
-    const LETTER: Self::Letter;
-
-    // the code of its letter
-    ghost letter: { ℕ };
+    ghost LETTER: { ℕ };
 
     // the answers that it may give; they do not depend on the engine's value, so no call changes them
     ghost may: { May };
 
+    // The number of lines may be any, and the rows are handed over whole, so the two are no struct that could be made only of some.
     fn find(&self, n: usize, rows: [u16; 16]) -> Result<EngineAnswer, EngineDecline>
         ensures { MatchResult result (λ a. (find_decline n ≡ None) × may n rows a) (λ e. find_decline n ≡ Some e) };
-
-    ghost fixed: { (m : Self.Letter) → Self.Letter.Mark.code m ≡ letter };
 
     ghost right: { AllRight may };
 }
 
 // The letter of an engine, without an engine at hand.
 pub fn letter_of<E: Engine>() -> char
-    ensures { result ≡ E.Engine.letter }
+    ensures { result ≡ E.Engine.LETTER }
 {
-    E::LETTER.shown()
+    E::LETTER
 }
 
 // No support has both a matching and a witness.
@@ -111,8 +82,5 @@ fn tells(n: usize, rows: [u16; 16], answer: EngineAnswer) -> bool
 pub fn has_matching<E: Engine>(engine: &E, n: usize, rows: [u16; 16]) -> Result<bool, EngineDecline>
     ensures { MatchResult result (λ b. (find_decline n ≡ None) × Settled n (in_rows rows) b) (λ e. find_decline n ≡ Some e) }
 {
-    match engine.find(n, rows) {
-        Ok(answer) => Ok(tells(n, rows, answer)),
-        Err(e) => Err(e),
-    }
+    engine.find(n, rows).map(|answer| tells(n, rows, answer))
 }

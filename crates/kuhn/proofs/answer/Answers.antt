@@ -1,6 +1,6 @@
-use Rattle.std.proofs.Common.{ℕ, List, sym, ◌∙◌, subst, inl, inr, arith}
+use Rattle.std.proofs.Common.{ℕ, sym, ◌∙◌, subst, inl, inr, arith}
 use Rattle.std.proofs.lemmas.Bool.{cases_eq}
-use Rattle.augmenting.specs.Holders.{Idle}
+use Rattle.augmenting.specs.Holders.{Holders, Within, Idle}
 use Rattle.augmenting.proofs.Ends.{edges_after, busy_after, busy_before, matching_right}
 use Rattle.kuhn.specs.Stuck.{Stuck}
 use Rattle.kuhn.proofs.Stuck.{stuck_witness}
@@ -12,9 +12,10 @@ returns-then-not-augment c =
     let hs = c.loop-up.pairing.holders in
     let idle : Idle hs up = c.loop-up.invariant.2 up (omega arith) (omega arith) in
     let f = c.augment.ensures.failed (omega arith) idle c.if-not-augment.true in
-    let P : List ℕ → Type 0 = λ x. Stuck x up c.augment.new.tried c.stuck_with.result in
-    stuck_witness c.args.n c.args.rows c.within-cut.result hs up c.augment.new.tried c.stuck_with.result
-    c.requires c.within-cut.ensures c.loop-up.invariant.0 c.loop-up.pairing.apart c.loop-up-test.true idle f.0 (subst P f.1 c.stuck_with.ensures)
+    let W : ℕ → Type 0 = λ n. Within n c.args.rows c.within-cut.result in
+    let P : Holders → Type 0 = λ x. Stuck x up c.augment.new.tried c.stuck_with.result in
+    stuck_witness c.args.lines.count c.args.rows c.within-cut.result hs up c.augment.new.tried c.stuck_with.result
+    c.args.lines.few (subst W c.count-n.ensures c.within-cut.ensures) c.loop-up.invariant.0 c.loop-up.pairing.apart (omega arith) idle f.0 (subst P f.1 c.stuck_with.ensures)
 
 pub loop-up-preserved : goal.loop-up-preserved
 loop-up-preserved c =
@@ -37,5 +38,6 @@ loop-up-preserved c =
 
 pub returns : goal.returns
 returns c =
-    matching_right c.args.n c.args.rows c.within-cut.result c.loop-up.pairing.holders c.requires c.within-cut.ensures c.loop-up.invariant.0 c.loop-up.pairing.apart
+    let W : ℕ → Type 0 = λ n. Within n c.args.rows c.within-cut.result in
+    matching_right c.args.lines.count c.args.rows c.within-cut.result c.loop-up.pairing.holders c.args.lines.few (subst W c.count-n.ensures c.within-cut.ensures) c.loop-up.invariant.0 c.loop-up.pairing.apart
     c.mates.result (λ u lu. c.loop-up.invariant.1 u (omega arith)) c.mates.ensures

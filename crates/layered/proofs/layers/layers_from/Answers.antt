@@ -1,6 +1,6 @@
 use Rattle.std.proofs.Common.{ℕ, replicate}
 use lib.ListN.{get_or-replicate}
-use Rattle.layered.proofs.Growth.{growing_start, growing_more, layering_closed, layering_found, fewer_unseen}
+use Rattle.layered.proofs.Growth.{growing_start, growing_more, layers_ended, layers_lead, fewer_unseen}
 use Rattle.layered.proofs.layers.layers_from.Goals as goal
 
 pub loop-steps-init : goal.loop-steps-init
@@ -8,13 +8,13 @@ loop-steps-init c = growing_start c.args.rows.now c.args.pairing.now.holders (re
 
 pub returns-then-is_empty : goal.returns-then-is_empty
 returns-then-is_empty c =
-    layering_closed c.args.rows.now c.args.pairing.now.holders c.args.roots c.loop-steps.steps c.step_on-next.new.steps c.loop-steps.layer c.loop-steps.reached c.loop-steps.seen c.step_on-next.result
+    layers_ended c.args.rows.now c.args.pairing.now.holders c.args.roots c.loop-steps.steps c.step_on-next.new.steps c.loop-steps.layer c.loop-steps.reached c.loop-steps.seen c.step_on-next.result
     c.loop-steps.invariant c.step_on-next.ensures (c.is_empty.ensures.none c.if-is_empty.true)
 
 pub returns-then-not-is_empty : goal.returns-then-not-is_empty
 returns-then-not-is_empty c =
     let w = c.is_empty-in-loop-steps.ensures.some c.if-not-is_empty.true in
-    layering_found c.args.rows.now c.args.pairing.now.holders c.args.roots c.loop-steps.steps c.step_on-next.new.steps c.loop-steps.layer c.loop-steps.reached c.loop-steps.seen c.step_on-next.result
+    layers_lead c.args.rows.now c.args.pairing.now.holders c.args.roots c.loop-steps.steps c.step_on-next.new.steps c.loop-steps.layer c.loop-steps.reached c.loop-steps.seen c.step_on-next.result
     c.loop-steps.invariant c.step_on-next.ensures c.held-held.result c.without.result w.0 c.held-held.ensures c.without.ensures w.1 w.2
 
 pub loop-steps-smaller : goal.loop-steps-smaller

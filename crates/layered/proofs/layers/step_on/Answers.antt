@@ -1,4 +1,5 @@
-use Rattle.std.proofs.Common.{◌≡◌, ℕ, ◌+◌, List, length, set, sym, ap, ◌∙◌, subst, arith, length-set}
+use Rattle.std.proofs.Common.{ℕ, ◌+◌, List, set, sym, ◌∙◌, subst, arith}
+use Rattle.std.proofs.lemmas.List.{set-get_or}
 use Rattle.layered.proofs.Steps.{Stepping, stepping_start, stepping_end, stepping_skip, stepping_take}
 use Rattle.layered.proofs.layers.step_on.Goals as goal
 use Rattle.layered.proofs.layers.step_on.Goals.{then-has_line, else-has_line}
@@ -19,14 +20,13 @@ loop-up-preserved c =
           let v = w.without.result in
           let P : List ℕ → Type 0 = λ x. To x c.if-has_line.next in
           let Q : ℕ → Type 0 = λ y. To (set c.loop-up.steps up v) y in
-          let long : length c.loop-up.steps ≡ 16 = sym (length-set c.loop-up.steps up v) ∙ ap length (sym w.steps-is) ∙ c.if-has_line.array_long in
           subst P (sym w.steps-is) (subst Q (sym w.next-is)
           (stepping_take rows layer seen steps0 c.loop-up.steps c.loop-up.next w.united-next.result up v (omega arith) (sym c.has_line.ensures ∙ w.if-has_line.true)
           w.without.ensures w.united-next.ensures c.loop-up.invariant))
       | else-has_line w ↦
           let P : List ℕ → Type 0 = λ x. To x c.if-has_line.next in
           let Q : ℕ → Type 0 = λ y. To c.loop-up.steps y in
-          subst P (sym w.steps-is) (subst Q (sym w.next-is)
+          subst P (sym (w.steps-is ∙ set-get_or c.loop-up.steps up 0)) (subst Q (sym w.next-is)
           (stepping_skip rows layer seen steps0 c.loop-up.steps c.loop-up.next up (sym c.has_line.ensures ∙ w.if-has_line.false) c.loop-up.invariant))
     ]
 

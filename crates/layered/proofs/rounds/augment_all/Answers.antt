@@ -1,5 +1,6 @@
-use Rattle.std.proofs.Common.{◌≡◌, ℕ, ◌+◌, List, sym, ap, ◌∙◌, subst, inl, inr, arith}
+use Rattle.std.proofs.Common.{◌≡◌, ℕ, ◌+◌, sym, ap, ◌∙◌, subst, inl, inr, arith}
 use Rattle.std.proofs.lemmas.Bool.{cases_Bool}
+use Rattle.augmenting.specs.Holders.{Holders}
 use Rattle.layered.proofs.Gains.{Turn, turn_start, still_idle, turn_skip, turn_found, turn_failed, round_end}
 use Rattle.layered.proofs.rounds.augment_all.Goals as goal
 use Rattle.layered.proofs.rounds.augment_all.Goals.{then-has_line, else-has_line}
@@ -14,9 +15,9 @@ loop-up-preserved c =
     let hs1 = c.loop-up.pairing.holders in
     let roots = c.args.roots in
     let up = c.loop-up.up in
-    let To : List ℕ → ℕ → Type 0 = λ x y. Turn steps hs x roots (up + 1) y in
-    let to : (x : List ℕ) (y : ℕ) → c.if-has_line.pairing.holders ≡ x → c.if-has_line.tried ≡ y → To x y → To c.if-has_line.pairing.holders c.if-has_line.tried =
-    λ x y p q s. (let P : List ℕ → Type 0 = λ z. To z c.if-has_line.tried in let Q : ℕ → Type 0 = λ z. To x z in subst P (sym p) (subst Q (sym q) s)) in
+    let To : Holders → ℕ → Type 0 = λ x y. Turn steps hs x roots (up + 1) y in
+    let to : (x : Holders) (y : ℕ) → c.if-has_line.pairing.holders ≡ x → c.if-has_line.tried ≡ y → To x y → To c.if-has_line.pairing.holders c.if-has_line.tried =
+    λ x y p q s. (let P : Holders → Type 0 = λ z. To z c.if-has_line.tried in let Q : ℕ → Type 0 = λ z. To x z in subst P (sym p) (subst Q (sym q) s)) in
     elim c.if-has_line.branch [
       | then-has_line w ↦
           let is = sym c.has_line.ensures ∙ w.if-has_line.true in
