@@ -28,25 +28,19 @@ mod tests {
 
     // How many numbers of the padded matrix are above zero.
     fn positives(owed: &Owed) -> usize {
-        let rows = pad(owed);
-        let mut count: usize = 0;
-        for i in 0..16 {
-            for j in 0..16 {
-                if rows[i][j] > 0 {
-                    count = count.saturating_add(1);
-                }
-            }
-        }
-        count
+        pad(owed)
+            .iter()
+            .flatten()
+            .filter(|number| **number > 0)
+            .count()
     }
 
     // The units that a plan grants at a crosspoint.
     fn granted(plan: &Plan, up: Uplink, down: Downlink) -> u32 {
-        let mut units: u32 = 0;
-        for mode in plan.modes() {
-            units = units.saturating_add(u32::from(mode.units_to(up, down)));
-        }
-        units
+        // a fold, since no proof was found that a plain sum fits
+        plan.modes().iter().fold(0, |units: u32, mode| {
+            units.saturating_add(u32::from(mode.units_to(up, down)))
+        })
     }
 
     // A plan keeps the rules, serves exactly what is owed and is as long as the busiest line.
@@ -58,9 +52,11 @@ mod tests {
                     .saturating_sub(owed.lines())
                     .saturating_add(1)
         );
-        for mode in plan.modes() {
-            assert!(rt; keeps_rules(owed.lines(), mode));
-        }
+        assert!(rt;
+            plan.modes()
+                .iter()
+                .all(|mode| keeps_rules(owed.lines(), mode))
+        );
         for i in 0..16 {
             for j in 0..16 {
                 if let Ok(units) = owed.units(Uplink(i), Downlink(j)) {
@@ -149,11 +145,9 @@ mod tests {
     #[test]
     fn three_lines(rt: HostRuntime) -> Result<(), Fail> {
         let mut owed = Owed::new(3)?;
-        owed.add(Uplink(0), Downlink(0), 2)?;
-        owed.add(Uplink(0), Downlink(1), 1)?;
-        owed.add(Uplink(1), Downlink(1), 1)?;
-        owed.add(Uplink(1), Downlink(2), 2)?;
-        owed.add(Uplink(2), Downlink(0), 1)?;
+        for (i, j, units) in [(0, 0, 2), (0, 1, 1), (1, 1, 1), (1, 2, 2), (2, 0, 1)] {
+            owed.add(Uplink(i), Downlink(j), units)?;
+        }
         check_engines(&rt, rt.alloc(), &owed, 5)?;
         let plan = make_plan(rt.alloc(), &Kuhn, &owed)?;
         assert_eq!(rt; plan.count(), 3);
@@ -164,12 +158,8 @@ mod tests {
     #[test]
     fn nothing_owed(rt: HostRuntime) -> Result<(), Fail> {
         let owed = Owed::new(3)?;
-        match make_plan(rt.alloc(), &Kuhn, &owed) {
-            Ok(_) => Err(Fail::new("a plan for nothing")),
-            Err(e) => {
-                assert_eq!(rt; e, PlanDecline::NothingOwed);
-                Ok(())
-            },
-        }
+        let plan = make_plan(rt.alloc(), &Kuhn, &owed);
+        assert_eq!(rt; plan.err(), Some(PlanDecline::NothingOwed));
+        Ok(())
     }
 }

@@ -1,11 +1,11 @@
 -- Sets of lines as numbers, and the rows of a support. Assumes nothing.
-use Rattle.std.proofs.Common.{◌≡◌, ℕ, zero, suc, ◌+◌, ◌*◌, ◌/◌, ◌%◌, ◌^◌, ◌<◌, ◌≤◌, Bool, true, false, ltb, List, length, get_or, refl, ap, ◌∙◌, arith}
+use Rattle.std.proofs.Common.{◌≡◌, ℕ, zero, suc, ◌+◌, ◌-◌, ◌*◌, ◌/◌, ◌%◌, ◌^◌, ◌<◌, ◌≤◌, Bool, true, false, ltb, List, length, get_or, refl, ap, ◌∙◌, inr, arith}
 use Rattle.std.proofs.lemmas.List.FromFn.{get_or-map-range_with_len, fill_by_all}
-use Rattle.std.proofs.lemmas.Bool.{lt-ltb, cond-true}
+use Rattle.std.proofs.lemmas.Bool.{lt-ltb, le-ltb, cond-true}
 use Rattle.lines.specs.Sums.{one_if}
-use Rattle.lines.specs.Matrix.{Matrix}
+use Rattle.lines.specs.Matrix.{Matrix, Blank}
 use Rattle.lines.specs.Sets.{has}
-use Rattle.lines.proofs.Sums.{sum_front, sum_same, sum_times, sum_next}
+use Rattle.lines.proofs.Sums.{sum_zeros, sum_front, sum_same, sum_split, sum_times, sum_next}
 use Rattle.lines.proofs.Bits.{has_rest}
 use Rattle.matching.specs.Supports.{in_rows}
 use Rattle.planning.specs.Supports.{support, in_bits, row_of_support, support_rows}
@@ -57,3 +57,18 @@ rows_hold n p few i j li lj =
 pub rows_are : (n : ℕ) (p : Matrix) (rows : List ℕ) → length rows ≡ 16 → ((i : ℕ) → i < 16 → get_or rows i 0 ≡ row_of_support n p i) → rows ≡ support_rows n p
 unfolding support_rows
 rows_are n p rows long each = fill_by_all (row_of_support n p) rows 16 0 long each
+
+-- no lines from n up, so that more places do not matter
+bits_wider : (n m : ℕ) (s : ℕ → Bool) → n ≤ m → ((j : ℕ) → n ≤ j → s j ≡ false) → in_bits m s ≡ in_bits n s
+bits_wider n m s le none =
+    let whole : n + (m - n) ≡ m = omega arith in
+    omega (
+      arith,
+      ap (λ k. in_bits k s) whole,
+      sum_split n (m - n) (λ k. one_if (s k) * 2 ^ k),
+      sum_zeros (m - n) (λ k. one_if (s (n + k)) * 2 ^ (n + k)) (λ k _. omega (arith, ap (λ b. one_if b * 2 ^ (n + k)) (none (n + k) (omega arith)))),
+    )
+
+-- where nothing stands outside the lines, all sixteen places hold a row of the support
+pub row_wider : (n : ℕ) (p : Matrix) → n ≤ 16 → Blank n p → (i : ℕ) → in_bits 16 (support p i) ≡ in_bits n (support p i)
+row_wider n p few blank i = bits_wider n 16 (support p i) few (λ j over. le-ltb 0 (p i j) (omega (arith, blank i j (inr over))))

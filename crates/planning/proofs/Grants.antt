@@ -28,6 +28,10 @@ module _ (n d : ℕ) (q : Matrix) (mates : List Downlink) (few : n ≤ 16) where
   pub some_grant : (i : ℕ) → i < n → grant_at n d q mates i ≡ grant_for (get_or mates i unused) (min d (q i (mate_of mates i)))
   some_grant i l = cond-true (ltb i n) (grant_for (get_or mates i unused) (min d (q i (mate_of mates i)))) None (lt-ltb i n l)
 
+  -- it needs only the units at the mate
+  pub same_grant : (q' : Matrix) (i : ℕ) → q i (mate_of mates i) ≡ q' i (mate_of mates i) → grant_at n d q mates i ≡ grant_at n d q' mates i
+  same_grant q' i e = ap (λ u. cond (ltb i n) (grant_for (get_or mates i unused) (min d u)) None) e
+
   pub row_at : (i : ℕ) → get_or (grant_row n d q mates) i None ≡ grant_at n d q mates i
   unfolding grant_row
   row_at i =

@@ -47,7 +47,7 @@ rows_whole n p q (mates ∷ rest) zero l = row_long n (dwell_of n p mates) q mat
 rows_whole n p q (mates ∷ rest) (suc k) l = rows_whole n (padded_left n p mates) (owed_left n p q mates) rest k (omega arith)
 
 -- a schedule with a length has a mode
-some_mode : (ms : List Mode) → 0 < span ms → 1 ≤ length ms
+pub some_mode : (ms : List Mode) → 0 < span ms → 1 ≤ length ms
 some_mode [] l = absurd (omega arith)
 some_mode (m ∷ ms) l = omega arith
 

@@ -1,5 +1,5 @@
 -- What a matching takes off a matrix whose lines have one sum, round after round. Assumes nothing.
-use Rattle.std.proofs.Common.{◌≡◌, ℕ, zero, suc, ◌+◌, ◌-◌, ◌*◌, ◌<◌, ◌≤◌, Bool, true, false, cond, eqb, ltb, List, [], ◌∷◌, length, sym, refl, ap, ◌∙◌, inl, inr, arith}
+use Rattle.std.proofs.Common.{◌≡◌, ℕ, zero, suc, ◌+◌, ◌-◌, ◌*◌, ◌<◌, ◌≤◌, min, Bool, true, false, cond, eqb, ltb, List, [], ◌∷◌, length, sym, refl, ap, ◌∙◌, inl, inr, arith}
 use Rattle.std.proofs.lemmas.Bool.{cases_eq, cases_lt, eq-eqb, ne_eqb, ltb-true, lt-ltb, le-ltb, cond-true, cond-false}
 use Rattle.lines.specs.declared.Downlink.{Downlink}
 use Rattle.lines.specs.Sums.{sum_below, count_below, one_if}
@@ -53,10 +53,10 @@ smallest_met (suc (suc n)) f l =
       | inr le ↦ (w.0, omega (arith, w.1), omega (arith, w.2))
     ]
 
-pub smallest_is : (n : ℕ) (f : ℕ → ℕ) (d : ℕ) → 0 < n → ((k : ℕ) → k < n → d ≤ f k) → (k : ℕ) × (k < n) × (f k ≡ d) → d ≡ smallest_below n f
-smallest_is n f d some least met =
-    let w = smallest_met n f some in
-    omega (arith, least w.0 w.1, w.2, smallest_le n f met.0 met.1, met.2)
+-- one number more, as a loop takes them: at first the limit stands for the smallest
+pub smallest_next : (n : ℕ) (f : ℕ → ℕ) (least d : ℕ) → f n ≤ longest_dwell → (n ≡ 0 → least ≡ longest_dwell) → (0 < n → least ≡ smallest_below n f) → d ≡ min least (f n) → d ≡ smallest_below (n + 1) f
+smallest_next zero f least d fits first after is = omega (arith, first refl)
+smallest_next (suc n) f least d fits first after is = let e : suc n + 1 ≡ suc (suc n) = omega arith in rw e (omega (arith, after (omega arith)))
 
 -- ---- one round
 

@@ -3,3 +3,4 @@ pub mod Making
 pub mod Best
 pub mod Kept
 pub mod Plans
+pub mod Rests

@@ -9,7 +9,7 @@ use Rattle.planning.specs.declared.decline.PlanDecline.TheVariants.{NothingOwed,
 
 -- the lines that a plan was made for
 abbrev pub plan_lines : Plan → ℕ
-plan_lines p = p.lines
+plan_lines p = p.lines.count
 
 -- its modes, in the order in which they run
 abbrev pub plan_modes : Plan → List Mode

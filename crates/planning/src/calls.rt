@@ -12,7 +12,7 @@ impl Plan {
     pub fn lines(&self) -> usize
         ensures { result ≡ plan_lines self.now }
     {
-        self.lines
+        self.lines.count()
     }
 
     // The number of modes.
@@ -36,21 +36,10 @@ impl Plan {
         self.modes.as_slice()
     }
 
-    fn at(&self, k: usize) -> Mode
-        requires { k < count (plan_modes self.now) }
-        ensures { result ≡ mode_at (plan_modes self.now) k }
-    {
-        self.modes[k]
-    }
-
     // Mode k, if there are so many.
     pub fn mode(&self, k: usize) -> Option<Mode>
         ensures { result ≡ (if nat_lt k (count (plan_modes self.now)) then Some (mode_at (plan_modes self.now) k) else None) }
     {
-        if k < self.modes.len() {
-            Some(self.at(k))
-        } else {
-            None
-        }
+        self.modes.get(k).copied()
     }
 }

@@ -2,31 +2,28 @@
 ghost use Rattle.std.specs.Prelude.{◌≡◌};
 ghost use Rattle.planning.specs.Plans.{number, place};
 
-use lines::Place;
+use lines::{Decline, Place};
 
 #[derive(Clone, Copy, PartialEq, Eq, Debug)]
 pub enum PlanDecline {
     NothingOwed,
-    // want of memory
+    // Want of memory is no reason of the rules, so it tells the number 0, which they give to none.
     NoMemory,
 }
 
-impl PlanDecline {
-    pub fn number(&self) -> u8
-        ensures { result ≡ number self.now }
-    {
+impl Decline for PlanDecline {
+    ghost number = { number };
+
+    ghost place = { place };
+
+    fn number(&self) -> u16 {
         match *self {
             PlanDecline::NothingOwed => 10,
             PlanDecline::NoMemory => 0,
         }
     }
 
-    pub fn place(&self) -> Place
-        ensures { result ≡ place self.now }
-    {
-        match *self {
-            PlanDecline::NothingOwed => Place::Nowhere,
-            PlanDecline::NoMemory => Place::Nowhere,
-        }
+    fn place(&self) -> Place {
+        Place::Nowhere
     }
 }

@@ -6,6 +6,7 @@ mod decline;
 mod make;
 mod modes;
 mod plan;
+mod rest;
 
 pub use decline::PlanDecline;
 pub use make::make_plan;

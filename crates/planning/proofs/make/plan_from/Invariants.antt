@@ -1,11 +1,11 @@
-use Rattle.std.proofs.Common.{vec_items}
-use Rattle.lines.specs.Matrix.{cells}
-use Rattle.owed.specs.Calls.{units_of}
+use Rattle.std.proofs.Common.{◌≡◌, vec_items}
+use Rattle.owed.specs.Calls.{lines_of, units_of}
+use Rattle.planning.specs.Rests.{rest_lines}
 use Rattle.planning.proofs.Going.{Going}
 use Rattle.planning.proofs.make.plan_from.Given as goal
 
-abbrev pub invariant-loop-left : goal.invariant-loop-left
-invariant-loop-left g l = Going g.E.Engine.may l.n (units_of l.owed) (cells l.padded) (cells l.unplanned) l.left (vec_items l.modes)
+abbrev pub invariant-loop-rest : goal.invariant-loop-rest
+invariant-loop-rest g l = (rest_lines l.rest ≡ lines_of l.owed) × Going g.E.Engine.may (units_of l.owed) l.rest (vec_items l.modes)
 
-abbrev pub decreases-loop-left : goal.decreases-loop-left
-decreases-loop-left g l = l.left
+abbrev pub decreases-loop-rest : goal.decreases-loop-rest
+decreases-loop-rest g l = l.rest.left

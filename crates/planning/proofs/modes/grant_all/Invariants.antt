@@ -7,8 +7,7 @@ use Rattle.planning.proofs.modes.grant_all.Given as goal
 -- the uplinks before i have their grants, and the others have none and are as they were
 abbrev pub invariant-loop-i : goal.invariant-loop-i
 invariant-loop-i l =
-    ((k : ℕ) → k < l.i → get_or l.row k None ≡ grant_at l.n l.dwell (cells l.initial.q) l.mates k)
-    × ((k : ℕ) → l.i ≤ k → get_or l.row k None ≡ None)
-    × ((x y : ℕ) → cells l.q x y ≡ minus (cells l.initial.q) (λ i j. units_to j (get_or l.row i None)) x y)
-    × (length l.row ≡ 16)
-    × (length l.q ≡ 16)
+    ((k : ℕ) → k < l.i → get_or l.grants k None ≡ grant_at l.fn.lines.count l.dwell (cells l.initial.row-items) l.mates k)
+    × ((k : ℕ) → l.i ≤ k → get_or l.grants k None ≡ None)
+    × ((x y : ℕ) → cells l.row-items x y ≡ minus (cells l.initial.row-items) (λ i j. units_to j (get_or l.grants i None)) x y)
+    × (length l.grants ≡ 16)
