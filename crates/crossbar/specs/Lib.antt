@@ -1,3 +1,4 @@
+pub mod Above
 pub mod Carries
 pub mod Kept
 pub mod Made

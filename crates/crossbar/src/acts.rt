@@ -6,10 +6,12 @@ ghost use Rattle.crossbar.specs.Carries.{runs_by};
 ghost use Rattle.crossbar.specs.Shown.{shown};
 ghost use Rattle.std.proofs.Common.{rules};
 
-use super::carrier::Carrier;
+use super::carrier::{Carrier, Start};
+use super::carry::outcomes;
 use super::held::Crossbar;
+use super::rules::{check_grant, inside};
 use lines::{Downlink, Line, Uplink};
-use schedule::Join;
+use schedule::{Join, Mode};
 use switch::{Outcome, Switch, SwitchDecline};
 
 impl<C: Carrier> Switch for Crossbar<C> {
@@ -22,7 +24,22 @@ impl<C: Carrier> Switch for Crossbar<C> {
         ensures after { shown self.new.fabric ≡ or_same (open_decline dwell (shown self.old.fabric)) (opens dwell (shown self.old.fabric)) (shown self.old.fabric) }
         ensures carrier { self.new.carrier ≡ self.old.carrier }
     {
-        self.fabric.open(dwell)
+        let fabric = &mut self.fabric;
+        if fabric.mode.is_some() {
+            return Err(SwitchDecline::ModeOpen);
+        }
+        if dwell == 0 {
+            return Err(SwitchDecline::BadUnits);
+        }
+        if fabric.room == 0 {
+            return Err(SwitchDecline::NoRoom);
+        }
+        fabric.room -= 1;
+        fabric.mode = Some(Mode {
+            dwell,
+            row: [None; 16],
+        });
+        Ok(())
     }
 
     fn grant(&mut self, up: Uplink, down: Downlink, units: u16) -> Result<(), SwitchDecline>
@@ -30,7 +47,13 @@ impl<C: Carrier> Switch for Crossbar<C> {
         ensures after { shown self.new.fabric ≡ or_same (grant_decline up down units (shown self.old.fabric)) (grants up down units (shown self.old.fabric)) (shown self.old.fabric) }
         ensures carrier { self.new.carrier ≡ self.old.carrier }
     {
-        self.fabric.grant(up, down, units)
+        let fabric = &mut self.fabric;
+        let mode = fabric.open_mode()?;
+        check_grant(fabric.lines, &mode, up, down, units)?;
+        let Mode { dwell, mut row } = mode;
+        row[usize::from(up.0)] = Some(Join { down, units });
+        fabric.mode = Some(Mode { dwell, row });
+        Ok(())
     }
 
     // What each grant carries is what the carrier says.
@@ -40,7 +63,14 @@ impl<C: Carrier> Switch for Crossbar<C> {
         ensures exact { shown self.new.fabric ≡ runs_by (C.Carrier.carries self.old.carrier) (shown self.old.fabric) }
         ensures carrier { self.new.carrier ≡ self.old.carrier }
     {
-        self.fabric.run(&self.carrier)
+        let mode = self.fabric.open_mode()?;
+        let start = Start {
+            clock: self.fabric.clock,
+            room: self.fabric.room,
+        };
+        let all = outcomes(&self.carrier, start, &mode.row);
+        self.fabric.close(mode.dwell, all);
+        Ok(())
     }
 
     fn void(&mut self) -> Result<(), SwitchDecline>
@@ -48,11 +78,13 @@ impl<C: Carrier> Switch for Crossbar<C> {
         ensures after { shown self.new.fabric ≡ voids (shown self.old.fabric) }
         ensures carrier { self.new.carrier ≡ self.old.carrier }
     {
-        self.fabric.void()
+        self.fabric.open_mode()?;
+        self.fabric.mode = None;
+        Ok(())
     }
 
     fn lines(&self) -> usize {
-        self.fabric.lines
+        self.fabric.lines.count()
     }
 
     fn room(&self) -> u16 {
@@ -64,42 +96,22 @@ impl<C: Carrier> Switch for Crossbar<C> {
     }
 
     fn carried(&self, up: Uplink, down: Downlink) -> Result<u64, SwitchDecline> {
-        let fabric = &self.fabric;
-        if up.0 as usize >= fabric.lines {
-            return Err(SwitchDecline::LineAbove(Line::Up(up)));
-        }
-        if down.0 as usize >= fabric.lines {
-            return Err(SwitchDecline::LineAbove(Line::Down(down)));
-        }
-        Ok(fabric.carried[up.0 as usize][down.0 as usize])
+        let i = inside(self.fabric.lines, Line::Up(up))?;
+        let j = inside(self.fabric.lines, Line::Down(down))?;
+        Ok(self.fabric.carried[i][j])
     }
 
     fn dwell(&self) -> Option<u16> {
-        match &self.fabric.mode {
-            None => None,
-            Some(mode) => Some(mode.dwell),
-        }
+        self.fabric.mode.as_ref().map(|mode| mode.dwell)
     }
 
     fn granted(&self, up: Uplink) -> Result<Option<Join>, SwitchDecline> {
-        let fabric = &self.fabric;
-        if up.0 as usize >= fabric.lines {
-            return Err(SwitchDecline::LineAbove(Line::Up(up)));
-        }
-        match &fabric.mode {
-            None => Ok(None),
-            Some(mode) => Ok(mode.row[up.0 as usize]),
-        }
+        let i = inside(self.fabric.lines, Line::Up(up))?;
+        Ok(self.fabric.mode.as_ref().and_then(|mode| mode.row[i]))
     }
 
     fn last(&self, up: Uplink) -> Result<Option<Outcome>, SwitchDecline> {
-        let fabric = &self.fabric;
-        if up.0 as usize >= fabric.lines {
-            return Err(SwitchDecline::LineAbove(Line::Up(up)));
-        }
-        match &fabric.last {
-            None => Ok(None),
-            Some(row) => Ok(row[up.0 as usize]),
-        }
+        let i = inside(self.fabric.lines, Line::Up(up))?;
+        Ok(self.fabric.last.as_ref().and_then(|row| row[i]))
     }
 }

@@ -4,19 +4,18 @@ ghost use Rattle.lines.specs.Matrix.{cells};
 ghost use Rattle.switch.specs.Meaning.{dwell_of, row_of};
 ghost use Rattle.crossbar.specs.Kept.{under_way, units_held, down_held};
 
+use lines::Lines;
 use schedule::Mode;
 use switch::Outcome;
 
 #[derive(Drop)]
 pub struct Fabric {
-    pub(super) lines: usize,
+    pub(super) lines: Lines,
     pub(super) room: u16,
     pub(super) clock: u64,
     pub(super) carried: [[u64; 16]; 16],
     pub(super) mode: Option<Mode>,
     pub(super) last: Option<[Option<Outcome>; 16]>,
-    ghost some_line: { 1 ≤ lines },
-    ghost few_lines: { lines ≤ 16 },
     // each mode that is left, and one that is under way, adds at most 65,535 to the clock
     ghost time_left: { clock + 65535 * room + under_way mode ≤ 65535 * 65535 },
     ghost rows: { (i : ℕ) → i < 16 → length (slice_index_or carried i []) ≡ 16 },

@@ -2,12 +2,12 @@
 #![tactic(auto)]
 
 mod acts;
-mod calls;
 mod carrier;
 mod carry;
 mod fabric;
 mod held;
 mod make;
+mod mode;
 mod rules;
 
 pub use carrier::{Carrier, Start};

@@ -7,8 +7,9 @@ ghost use Rattle.crossbar.specs.Shown.{shown};
 use super::carrier::Carrier;
 use super::fabric::Fabric;
 use super::held::Crossbar;
+use lines::Lines;
 
-// Nothing carried at any crosspoint.
+// Nothing carried at any crosspoint. As for the owed matrix, of wider numbers: a generic clause would need a zero of the type.
 fn no_units() -> [[u64; 16]; 16]
     ensures rows { (i : ℕ) → i < 16 → length (slice_index_or result i []) ≡ 16 }
     ensures none { (i j : ℕ) → cells result i j ≡ 0 }
@@ -20,29 +21,22 @@ fn no_units() -> [[u64; 16]; 16]
 pub fn lines_outside(lines: usize) -> bool
     ensures { result ≡ bad_lines lines }
 {
-    lines == 0 || lines > 16
+    Lines::new(lines).is_none()
 }
 
-// A number of lines outside 1 to 16 gives a fabric of one line without room.
+// A number of lines outside 1 to 16 gives a fabric of one line without room: a making can't fail, and `lines_outside` tells beforehand.
 fn make_fabric(lines: usize, room: u16) -> Fabric
     ensures { shown result ≡ made (bad_lines lines) lines room }
 {
-    let carried = no_units();
-    if lines_outside(lines) {
-        return Fabric {
-            lines: 1,
-            room: 0,
-            clock: 0,
-            carried,
-            mode: None,
-            last: None,
-        };
-    }
+    let (lines, room) = match Lines::new(lines) {
+        Some(lines) => (lines, room),
+        None => (Lines::new(1).unwrap(), 0),
+    };
     Fabric {
         lines,
         room,
         clock: 0,
-        carried,
+        carried: no_units(),
         mode: None,
         last: None,
     }

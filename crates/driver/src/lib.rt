@@ -1,12 +1,13 @@
 // The driver: programs open, grant, run and void a mode through a token that must be given back.
 #![tactic(auto)]
 
-ghost use Rattle.std.specs.Prelude.{◌≡◌, true};
-ghost use Rattle.lines.specs.Verdicts.{or_same};
+ghost use Rattle.std.specs.Prelude.{◌≡◌, true, Option};
+ghost use Rattle.lines.specs.Verdicts.{answered, or_same};
 ghost use Rattle.switch.specs.Calls.{open_decline, opens, grant_decline, grants, RunTo, voids};
-ghost use Rattle.driver.specs.Answers.{number, place, open_answer, grant_answer, spend_answer};
+ghost use Rattle.driver.specs.Answers.{number, place, unspent, open_answer, grant_answer, spend_answer};
+ghost use Rattle.switch.specs.declared.SwitchDecline.{SwitchDecline};
 
-use lines::{Downlink, Place, Uplink};
+use lines::{Decline, Downlink, Place, Uplink};
 use switch::{Switch, SwitchDecline};
 
 // The token of a mode that is open. Run or void takes it back, and only then it is spent.
@@ -32,8 +33,20 @@ impl OpenMode {
         self.dwell
     }
 
-    fn end(mut self) {
-        self.spent = true;
+    // A run or void that was accepted spends the token; one that was declined hands it back.
+    fn spend(mut self, answer: Result<(), SwitchDecline>) -> Result<(), Unspent>
+        ensures { (o : Option SwitchDecline) → answer ≡ answered o → result ≡ answered (unspent self o) }
+    {
+        match answer {
+            Ok(()) => {
+                self.spent = true;
+                Ok(())
+            }
+            Err(e) => Err(Unspent {
+                mode: self,
+                decline: DriverDecline::from(e),
+            }),
+        }
     }
 }
 
@@ -43,16 +56,24 @@ pub struct DriverDecline {
     pub switch: SwitchDecline,
 }
 
-impl DriverDecline {
-    pub fn number(self) -> u16
-        ensures { result ≡ number self }
-    {
+impl From<SwitchDecline> for DriverDecline {
+    ghost from_gives = { λ e d. d ≡ record { «switch» = e } };
+
+    fn from(switch: SwitchDecline) -> DriverDecline {
+        DriverDecline { switch }
+    }
+}
+
+impl Decline for DriverDecline {
+    ghost number = { number };
+
+    ghost place = { place };
+
+    fn number(&self) -> u16 {
         self.switch.number()
     }
 
-    pub fn place(self) -> Place
-        ensures { result ≡ place self }
-    {
+    fn place(&self) -> Place {
         self.switch.place()
     }
 }
@@ -67,13 +88,11 @@ pub fn open<S: Switch>(s: &mut S, dwell: u16) -> Result<OpenMode, DriverDecline>
     ensures answer { result ≡ open_answer dwell (S.meaning s.old) }
     ensures after { S.meaning s.new ≡ or_same (open_decline dwell (S.meaning s.old)) (opens dwell (S.meaning s.old)) (S.meaning s.old) }
 {
-    match s.open(dwell) {
-        Ok(()) => Ok(OpenMode {
-            dwell,
-            spent: false,
-        }),
-        Err(e) => Err(DriverDecline { switch: e }),
-    }
+    s.open(dwell)?;
+    Ok(OpenMode {
+        dwell,
+        spent: false,
+    })
 }
 
 pub fn grant<S: Switch>(
@@ -86,40 +105,20 @@ pub fn grant<S: Switch>(
     ensures answer { result ≡ grant_answer up down units (S.meaning s.old) }
     ensures after { S.meaning s.new ≡ or_same (grant_decline up down units (S.meaning s.old)) (grants up down units (S.meaning s.old)) (S.meaning s.old) }
 {
-    match s.grant(up, down, units) {
-        Ok(()) => Ok(()),
-        Err(e) => Err(DriverDecline { switch: e }),
-    }
+    s.grant(up, down, units)?;
+    Ok(())
 }
 
 pub fn run<S: Switch>(s: &mut S, mode: OpenMode) -> Result<(), Unspent>
     ensures answer { result ≡ spend_answer mode (S.meaning s.old) }
     ensures after { RunTo (S.meaning s.old) (S.meaning s.new) }
 {
-    match s.run() {
-        Ok(()) => {
-            mode.end();
-            Ok(())
-        }
-        Err(e) => Err(Unspent {
-            mode,
-            decline: DriverDecline { switch: e },
-        }),
-    }
+    mode.spend(s.run())
 }
 
 pub fn void<S: Switch>(s: &mut S, mode: OpenMode) -> Result<(), Unspent>
     ensures answer { result ≡ spend_answer mode (S.meaning s.old) }
     ensures after { S.meaning s.new ≡ voids (S.meaning s.old) }
 {
-    match s.void() {
-        Ok(()) => {
-            mode.end();
-            Ok(())
-        }
-        Err(e) => Err(Unspent {
-            mode,
-            decline: DriverDecline { switch: e },
-        }),
-    }
+    mode.spend(s.void())
 }

@@ -1,6 +1,5 @@
 -- The smallest limit of the rules that hold. Assumes nothing.
-use Rattle.std.proofs.Common.{◌≡◌, ℕ, zero, suc, ◌<◌, ◌≤◌, min, true, List, [], ◌∷◌, length, get_or, take, inl, inr, arith}
-use Rattle.std.proofs.lemmas.List.{length-take-le}
+use Rattle.std.proofs.Common.{◌≡◌, ℕ, zero, suc, ◌<◌, ◌≤◌, min, true, List, [], ◌∷◌, length, get_or, inl, inr, arith}
 use Rattle.std.proofs.lemmas.Bool.{cases_Bool, cond-true, cond-false}
 use Rattle.simulator.specs.declared.rules.FaultRule.{FaultRule}
 use Rattle.simulator.specs.Faults.{holds, after, kept, no_rule, Smallest}
@@ -37,7 +36,3 @@ module _ (t i j : ℕ) where
       each_of : Smallest fs t i j (after f t i j u) (kept fs t i j (after f t i j u)) → (n : ℕ) → n < length (f ∷ fs) → holds (get_or (f ∷ fs) n no_rule) t i j ≡ true → kept fs t i j (after f t i j u) ≤ (get_or (f ∷ fs) n no_rule).most
       each_of rest zero l h = omega (arith, rest.granted, after_most f u h)
       each_of rest (suc n) l h = rest.each n (omega arith) h
-
--- the first n of 32 rules
-pub length_first : (n : ℕ) (fs : List FaultRule) → n ≤ 32 → length fs ≡ 32 → length (take n fs) ≡ n
-length_first n fs few long = length-take-le n fs (omega arith)

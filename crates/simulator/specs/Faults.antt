@@ -1,5 +1,6 @@
 -- What a simulator carries under its fault rules. Assumes nothing.
-use Rattle.std.specs.Prelude.{◌≡◌, ℕ, ◌<◌, ◌≤◌, min, Bool, true, cond, ◌&&◌, List, [], ◌∷◌, length, get_or, take, ◌==◌, nat_le, slice_index_or}
+use Rattle.std.specs.Prelude.{◌≡◌, ℕ, ◌<◌, ◌≤◌, min, Bool, true, cond, ◌&&◌, List, length, get_or, take, ◌==◌, nat_le, slice_index_or}
+use Rattle.std.specs.List.{fold}
 use Rattle.lines.specs.Matrix.{uplink, downlink}
 use Rattle.simulator.specs.declared.rules.FaultRule.{FaultRule}
 use Rattle.simulator.specs.declared.rules.FaultRules.{FaultRules}
@@ -14,8 +15,7 @@ after f t i j u = cond (holds f t i j) (min u f.most) u
 
 -- the units that a grant (i, j, u) carries: what all rules let through
 abbrev pub kept : List FaultRule → ℕ → ℕ → ℕ → ℕ → ℕ
-kept [] t i j u = u
-kept (f ∷ fs) t i j u = kept fs t i j (after f t i j u)
+kept fs t i j u = fold (λ left f. after f t i j left) u fs
 
 -- the rules of a simulator
 abbrev pub rules_of : FaultRules → List FaultRule

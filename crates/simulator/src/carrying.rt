@@ -6,14 +6,16 @@ use super::rules::{FaultRule, FaultRules};
 use crossbar::{Carrier, Start};
 use lines::{Downlink, Uplink};
 
-// The units that one rule lets through.
-fn after_rule(rule: &FaultRule, clock: u64, up: Uplink, down: Downlink, units: u16) -> u16
-    ensures { result ≡ after rule.now clock up.0 down.0 units }
-{
-    if rule.up == up && rule.down == down && rule.from <= clock {
-        units.min(rule.most)
-    } else {
-        units
+impl FaultRule {
+    // The units that the rule lets through.
+    fn lets(&self, clock: u64, up: Uplink, down: Downlink, units: u16) -> u16
+        ensures { result ≡ after self.now clock up.0 down.0 units }
+    {
+        if self.up == up && self.down == down && self.from <= clock {
+            units.min(self.most)
+        } else {
+            units
+        }
     }
 }
 
@@ -22,20 +24,9 @@ fn after_rules(rules: &[FaultRule], clock: u64, up: Uplink, down: Downlink, unit
     ensures exact { result ≡ kept rules.now clock up.0 down.0 units }
     ensures smallest { Smallest rules.now clock up.0 down.0 units result }
 {
-    let mut left = units;
-    for rule in rules {
-        left = after_rule(rule, clock, up, down, left);
-    }
-    left
-}
-
-impl FaultRules {
-    // The rules that hold, in the order in which they came.
-    fn in_use(&self) -> &[FaultRule]
-        ensures { result.now ≡ rules_of self.now }
-    {
-        &self.rules[0..self.count]
-    }
+    rules
+        .iter()
+        .fold(units, |left, rule| rule.lets(clock, up, down, left))
 }
 
 impl Carrier for FaultRules {

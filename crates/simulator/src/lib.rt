@@ -3,6 +3,7 @@
 
 mod carrying;
 mod decline;
+mod list;
 mod making;
 mod rules;
 mod running;

@@ -13,6 +13,7 @@ pub struct FaultRule {
 }
 
 // The first `count` of the rules hold; the others are not used.
+// An array and a count, since a simulator is made and copied without memory of its own, and the kit's ArrayVec is not Copy.
 #[derive(Clone, Copy)]
 pub struct FaultRules {
     pub(super) rules: [FaultRule; 32],

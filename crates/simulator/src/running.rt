@@ -10,6 +10,7 @@ use super::making::Simulator;
 use switch::{Switch, SwitchDecline};
 
 // The switch's run: each grant carries what the rules let through.
+// A crossbar's run is one for all carriers, and can speak of its carrier only; this one states what that is under fault rules.
 pub fn run(s: &mut Simulator) -> Result<(), SwitchDecline>
     ensures answer { result ≡ answered (mode_decline (shown s.old.fabric)) }
     ensures exact { shown s.new.fabric ≡ runs_by (λ t r i j u. kept (rules_of s.old.carrier) t i j u) (shown s.old.fabric) }

@@ -1,7 +1,9 @@
 -- When the grants of a mode are accepted. Assumes nothing.
-use Rattle.std.proofs.Common.{◌≡◌, ℕ, zero, suc, ◌<◌, ◌≤◌, true, false, eqb, ltb, leb, List, [], ◌∷◌, get_or, Some, None, Option, sym, refl, ap, ◌∙◌, inl, inr, arith}
-use Rattle.std.proofs.lemmas.Bool.{cases_eq, cases_lt, cases_Bool, eqb-true, ne_eqb, lt-leb, or_from, le-ltb, le-leb}
+use Rattle.std.proofs.Common.{◌≡◌, ℕ, zero, suc, ◌<◌, ◌≤◌, true, false, eqb, ltb, leb, List, get_or, Some, None, Option, sym, refl, ap, ◌∙◌, inl, inr, arith}
+use Rattle.std.proofs.lemmas.Bool.{cases_eq, cases_lt, cases_Bool, eqb-true, ne_eqb, lt-leb, le-ltb, le-leb}
 use Rattle.std.proofs.lemmas.Bool.Decides.{nat_tests}
+use Rattle.std.proofs.lemmas.List.Elements.{All-from_get_or}
+use Rattle.std.proofs.lemmas.List.Folds.{list_any_none}
 use Rattle.lines.specs.Verdicts.{or_else}
 use Rattle.schedule.specs.declared.Join.{Join}
 use Rattle.schedule.specs.declared.Mode.{Mode}
@@ -54,8 +56,7 @@ accepted_inside n x (suc k) free i l past =
 
 -- no entry is joined to the downlink
 not_taken : (j : ℕ) (row : List (Option Join)) → ((h : ℕ) → joined_to j (get_or row h None) ≡ false) → down_taken j row ≡ false
-not_taken j [] each = refl
-not_taken j (x ∷ row) each = or_from (joined_to j x) (down_taken j row) (each 0) (not_taken j row (λ h. each (suc h)))
+not_taken j row each = list_any_none (joined_to j) row (All-from_get_or (λ x. joined_to j x ≡ false) row None (λ h l. each h))
 
 -- an entry that is joined to the downlink is a grant there
 joined : (o : Option Join) (j : ℕ) → joined_to j o ≡ true → (y : Join) × (o ≡ Some y) × (y.down.0 ≡ j)

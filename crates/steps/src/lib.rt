@@ -10,6 +10,7 @@ ghost use Rattle.steps.specs.WholeMode.{Fresh, GrantsRow, Ready, seen, RanWith, 
 use driver::{DriverDecline, OpenMode};
 use lines::Uplink;
 use schedule::{Join, Mode};
+use std::array;
 use switch::{Outcome, Switch};
 
 // The grants of a row, by rising uplink, up to one that is declined.
@@ -21,12 +22,20 @@ fn grant_row<S: Switch>(
     requires { Fresh token.now.dwell (S.meaning s.old) }
     ensures { GrantsRow (mode_with token.now.dwell row.now) (S.meaning s.old) (S.meaning s.new) result }
 {
-    for i in 0..16 {
-        if let Some(join) = row[i] {
+    for (i, entry) in row.iter().enumerate() {
+        if let Some(join) = *entry {
             driver::grant(s, token, Uplink(i as u16), join.down, join.units)?;
         }
     }
     Ok(())
+}
+
+// What an uplink did in the last run; nothing where the switch does not have it.
+fn outcome<S: Switch>(s: &S, i: usize) -> Option<Outcome>
+    requires { i < 16 }
+    ensures { result ≡ seen (S.meaning s.now) i }
+{
+    s.last(Uplink(i as u16)).ok().flatten()
 }
 
 // What each uplink did in the last run.
@@ -34,14 +43,7 @@ fn last_run<S: Switch>(s: &S) -> [Option<Outcome>; 16]
     ensures sixteen { length result ≡ 16 }
     ensures each { (i : ℕ) → i < 16 → slice_index_or result i None ≡ seen (S.meaning s.now) i }
 {
-    let mut all: [Option<Outcome>; 16] = [None; 16];
-    for i in 0..16 {
-        match s.last(Uplink(i as u16)) {
-            Ok(outcome) => all[i] = outcome,
-            Err(_) => {}
-        }
-    }
-    all
+    array::from_fn(|i| outcome(s, i))
 }
 
 // Runs the open mode, and answers what its grants carried.
@@ -49,10 +51,8 @@ fn finish<S: Switch>(s: &mut S, token: OpenMode) -> [Option<Outcome>; 16]
     requires { Ready (S.meaning s.old) }
     ensures { RanWith result (S.meaning s.old) (S.meaning s.new) }
 {
-    match driver::run(s, token) {
-        Ok(()) => last_run(s),
-        Err(_) => unreachable(),
-    }
+    driver::run(s, token).unwrap();
+    last_run(s)
 }
 
 // Voids the open mode.
@@ -60,10 +60,7 @@ fn give_up<S: Switch>(s: &mut S, token: OpenMode)
     requires { is_open (S.meaning s.old).mode ≡ true }
     ensures { S.meaning s.new ≡ voids (S.meaning s.old) }
 {
-    match driver::void(s, token) {
-        Ok(()) => {}
-        Err(_) => unreachable(),
-    }
+    driver::void(s, token).unwrap();
 }
 
 // Opens a mode, makes its grants by rising uplink and runs it. Where a grant is declined, the mode is voided.

@@ -1,5 +1,6 @@
 -- What each call of a switch does to its meaning, and which decline it meets. Assumes nothing.
-use Rattle.std.specs.Prelude.{◌≡◌, ℕ, ◌+◌, ◌-◌, ◌<◌, ◌≤◌, Bool, false, cond, ◌||◌, List, [], ◌∷◌, length, is_some, Some, None, Option, Result, ◌==◌, nat_le, nat_lt, slice_index_or, slice_set}
+use Rattle.std.specs.Prelude.{◌≡◌, ℕ, ◌+◌, ◌-◌, ◌<◌, ◌≤◌, Bool, false, cond, ◌||◌, List, length, is_some, Some, None, Option, Result, ◌==◌, nat_le, nat_lt, slice_index_or, slice_set}
+use Rattle.std.specs.List.{list_any}
 use Rattle.lines.specs.Verdicts.{told}
 use Rattle.lines.specs.declared.Uplink.{Uplink}
 use Rattle.lines.specs.declared.Downlink.{Downlink}
@@ -47,8 +48,7 @@ joined_to j None = false
 joined_to j (Some x) = x.down.0 == j
 
 abbrev pub down_taken : ℕ → List (Option Join) → Bool
-down_taken j [] = false
-down_taken j (x ∷ row) = joined_to j x || down_taken j row
+down_taken j row = list_any (joined_to j) row
 
 -- which decline a grant meets in an open mode of dwell d that has the grants of row
 abbrev pub row_decline : ℕ → ℕ → List (Option Join) → Uplink → Downlink → ℕ → Option SwitchDecline

@@ -6,7 +6,7 @@ ghost use Rattle.lines.specs.Verdicts.{answered, or_same};
 ghost use Rattle.switch.specs.Meaning.{Meaning, Sound};
 ghost use Rattle.switch.specs.Calls.{number, place, open_decline, opens, grant_decline, grants, mode_decline, voids, RunTo, carried_answer, dwell_answer, granted_answer, last_answer};
 
-use lines::{Downlink, Line, Place, Uplink};
+use lines::{Decline, Downlink, Line, Place, Uplink};
 use schedule::Join;
 
 // A grant that was run, and the units that it carried.
@@ -27,11 +27,13 @@ pub enum SwitchDecline {
     LineTaken(Line),
 }
 
-impl SwitchDecline {
-    pub fn number(self) -> u16
-        ensures { result ≡ number self }
-    {
-        match self {
+impl Decline for SwitchDecline {
+    ghost number = { number };
+
+    ghost place = { place };
+
+    fn number(&self) -> u16 {
+        match *self {
             SwitchDecline::LineAbove(_) => 4,
             SwitchDecline::BadUnits => 5,
             SwitchDecline::ModeOpen => 11,
@@ -41,10 +43,8 @@ impl SwitchDecline {
         }
     }
 
-    pub fn place(self) -> Place
-        ensures { result ≡ place self }
-    {
-        match self {
+    fn place(&self) -> Place {
+        match *self {
             SwitchDecline::LineAbove(line) | SwitchDecline::LineTaken(line) => Place::OnLine(line),
             SwitchDecline::BadUnits
             | SwitchDecline::ModeOpen

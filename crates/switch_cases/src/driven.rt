@@ -1,16 +1,14 @@
 // Grants and whole modes on a simulator.
+use super::shared::{carried, join};
 use driver::DriverDecline;
-use lines::{Downlink, Line, Place, Uplink};
-use schedule::{Join, Mode};
+use lines::{Decline, Downlink, Line, Place, Uplink};
+use schedule::Mode;
 use switch::{Outcome, Switch, SwitchDecline};
 
 // Dwell 2, and one unit for uplink 0 to downlink 1.
 fn one_grant() -> Mode {
     let mut row = [None; 16];
-    row[0] = Some(Join {
-        down: Downlink(1),
-        units: 1,
-    });
+    row[0] = Some(join(1, 1));
     Mode { dwell: 2, row }
 }
 
@@ -30,16 +28,13 @@ fn with_room_for_one_it_runs_once(rt: HostRuntime) {
     let mut s = simulator::make(2, 1);
     let mut outcomes = [None; 16];
     outcomes[0] = Some(Outcome {
-        join: Join {
-            down: Downlink(1),
-            units: 1,
-        },
+        join: join(1, 1),
         carried: 1,
     });
     assert_eq!(rt; steps::run_mode(&mut s, &one_grant()), Ok(outcomes));
     assert_eq!(rt; s.clock(), 2);
     assert_eq!(rt; s.room(), 0);
-    assert_eq!(rt; s.carried(Uplink(0), Downlink(1)), Ok(1));
+    assert_eq!(rt; carried(&s), Ok(1));
     let full = DriverDecline {
         switch: SwitchDecline::NoRoom,
     };
@@ -65,10 +60,7 @@ fn a_mode_that_is_open_is_in_the_way(rt: HostRuntime) {
 fn a_mode_that_breaks_the_rules_is_voided(rt: HostRuntime) {
     let mut s = simulator::make(2, 3);
     let mut mode = one_grant();
-    mode.row[1] = Some(Join {
-        down: Downlink(1),
-        units: 1,
-    });
+    mode.row[1] = Some(join(1, 1));
     let taken = DriverDecline {
         switch: SwitchDecline::LineTaken(Line::Down(Downlink(1))),
     };
@@ -96,13 +88,7 @@ fn units_are_within_the_dwell(rt: HostRuntime) {
         Err(SwitchDecline::BadUnits)
     );
     assert_eq!(rt; SwitchDecline::BadUnits.number(), 5);
-    assert_eq!(rt;
-        s.granted(Uplink(0)),
-        Ok(Some(Join {
-            down: Downlink(0),
-            units: 3,
-        }))
-    );
+    assert_eq!(rt; s.granted(Uplink(0)), Ok(Some(join(0, 3))));
     assert_eq!(rt; s.granted(Uplink(1)), Ok(None));
 }
 

@@ -1,7 +1,8 @@
 // Fault rules of a simulator.
-use lines::{Downlink, Line, Uplink};
-use simulator::{FaultRule, RuleDecline, Simulator, SimulatorDecline};
-use switch::{Switch, SwitchDecline};
+use super::shared::{carried, run_units};
+use lines::{Decline, Downlink, Line, Uplink};
+use simulator::{FaultRule, RuleDecline, SimulatorDecline};
+use switch::Switch;
 
 fn rule(most: u16, from: u64) -> FaultRule {
     FaultRule {
@@ -12,26 +13,19 @@ fn rule(most: u16, from: u64) -> FaultRule {
     }
 }
 
-// Runs a mode of dwell 9 with 9 units at (0, 1).
-fn run_nine(s: &mut Simulator) -> Result<(), SwitchDecline> {
-    s.open(9)?;
-    s.grant(Uplink(0), Downlink(1), 9)?;
-    s.run()
-}
-
 #[test]
 fn the_smallest_limit_holds_from_its_time_on(rt: HostRuntime) {
     let mut s = simulator::make(2, 3);
     assert_eq!(rt; simulator::add_rule(&mut s, rule(2, 9)), Ok(()));
     assert_eq!(rt; simulator::add_rule(&mut s, rule(5, 9)), Ok(()));
     assert_eq!(rt; simulator::add_rule(&mut s, rule(0, 19)), Ok(()));
-    assert_eq!(rt; run_nine(&mut s), Ok(()));
-    assert_eq!(rt; s.carried(Uplink(0), Downlink(1)), Ok(9));
-    assert_eq!(rt; run_nine(&mut s), Ok(()));
-    assert_eq!(rt; s.carried(Uplink(0), Downlink(1)), Ok(11));
+    assert_eq!(rt; run_units(&mut s, 9), Ok(()));
+    assert_eq!(rt; carried(&s), Ok(9));
+    assert_eq!(rt; run_units(&mut s, 9), Ok(()));
+    assert_eq!(rt; carried(&s), Ok(11));
     assert_eq!(rt; s.clock(), 18);
-    assert_eq!(rt; run_nine(&mut s), Ok(()));
-    assert_eq!(rt; s.carried(Uplink(0), Downlink(1)), Ok(13));
+    assert_eq!(rt; run_units(&mut s, 9), Ok(()));
+    assert_eq!(rt; carried(&s), Ok(13));
 }
 
 #[test]
@@ -46,16 +40,14 @@ fn there_is_no_thirty_third_rule(rt: HostRuntime) {
     );
     assert_eq!(rt; RuleDecline::RulesFull.number(), 3);
     let far = FaultRule {
-        up: Uplink(0),
         down: Downlink(2),
-        most: 0,
-        from: 0,
+        ..rule(0, 0)
     };
     let above = RuleDecline::LineAbove(Line::Down(Downlink(2)));
     assert_eq!(rt; simulator::add_rule(&mut s, far), Err(above));
     assert_eq!(rt; above.number(), 4);
-    assert_eq!(rt; run_nine(&mut s), Ok(()));
-    assert_eq!(rt; s.carried(Uplink(0), Downlink(1)), Ok(7));
+    assert_eq!(rt; run_units(&mut s, 9), Ok(()));
+    assert_eq!(rt; carried(&s), Ok(7));
 }
 
 #[test]

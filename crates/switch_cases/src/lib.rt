@@ -7,3 +7,5 @@ mod driven;
 mod faults;
 #[cfg(test)]
 mod reports;
+#[cfg(test)]
+mod shared;

@@ -1,8 +1,9 @@
 // Telemetry switches over files.
-use lines::{Downlink, Uplink};
+use super::shared::{carried, run_units};
+use lines::Decline;
 use std::test::Fail;
 use switch::{Switch, SwitchDecline};
-use telemetry::{Telemetry, TelemetryDecline};
+use telemetry::TelemetryDecline;
 
 // Two records: uplink 0 carried 258 units to downlink 1, and then 3 units to downlink 0.
 fn two_records() -> [u8; 104] {
@@ -14,31 +15,24 @@ fn two_records() -> [u8; 104] {
     file
 }
 
-// Runs a mode with the units granted at (0, 1).
-fn run_mode(s: &mut Telemetry<'_>, units: u16) -> Result<(), SwitchDecline> {
-    s.open(units)?;
-    s.grant(Uplink(0), Downlink(1), units)?;
-    s.run()
-}
-
 #[test]
 fn each_open_takes_up_the_next_record(rt: HostRuntime) {
     let file = two_records();
     let mut s = telemetry::make(2, &file);
     assert_eq!(rt; s.room(), 2);
-    assert_eq!(rt; run_mode(&mut s, 300), Ok(()));
-    assert_eq!(rt; s.carried(Uplink(0), Downlink(1)), Ok(258));
-    assert_eq!(rt; run_mode(&mut s, 300), Ok(()));
-    assert_eq!(rt; s.carried(Uplink(0), Downlink(1)), Ok(258));
-    assert_eq!(rt; run_mode(&mut s, 300), Err(SwitchDecline::NoRoom));
+    assert_eq!(rt; run_units(&mut s, 300), Ok(()));
+    assert_eq!(rt; carried(&s), Ok(258));
+    assert_eq!(rt; run_units(&mut s, 300), Ok(()));
+    assert_eq!(rt; carried(&s), Ok(258));
+    assert_eq!(rt; run_units(&mut s, 300), Err(SwitchDecline::NoRoom));
 }
 
 #[test]
 fn no_more_is_carried_than_granted(rt: HostRuntime) {
     let file = two_records();
     let mut s = telemetry::make(2, &file);
-    assert_eq!(rt; run_mode(&mut s, 7), Ok(()));
-    assert_eq!(rt; s.carried(Uplink(0), Downlink(1)), Ok(7));
+    assert_eq!(rt; run_units(&mut s, 7), Ok(()));
+    assert_eq!(rt; carried(&s), Ok(7));
 }
 
 #[test]

@@ -3,6 +3,7 @@ use Rattle.std.specs.Prelude.{ℕ, ◌+◌, ◌-◌, ◌*◌, min, cond, List, l
 use Rattle.records.specs.declared.record.Entry.{Entry}
 use Rattle.records.specs.Layout.{entry_at}
 use Rattle.records.specs.Reader.{part}
+use Rattle.telemetry.specs.Made.{unread}
 
 -- record n of a file, or none if it is not wholly there
 abbrev pub record_at : List ℕ → ℕ → Option (List ℕ)
@@ -22,9 +23,9 @@ abbrev pub by_record : Option (List ℕ) → ℕ → ℕ → ℕ → ℕ
 by_record None i j u = 0
 by_record (Some bytes) i j u = by_entry (entry_of bytes i) j u
 
--- the record that was taken up by the open that left this room, of so many records
-abbrev pub taken_up : List ℕ → ℕ → ℕ → Option (List ℕ)
-taken_up file records room = cond (nat_lt room records) (record_at file (records - room - 1)) None
+-- the record that was taken up by the open that left this room
+abbrev pub taken_up : List ℕ → ℕ → Option (List ℕ)
+taken_up file room = cond (nat_lt room (unread file)) (record_at file (unread file - room - 1)) None
 
-abbrev pub reports : List ℕ → ℕ → ℕ → ℕ → ℕ → ℕ → ℕ
-reports file records room i j u = by_record (taken_up file records room) i j u
+abbrev pub reports : List ℕ → ℕ → ℕ → ℕ → ℕ → ℕ
+reports file room i j u = by_record (taken_up file room) i j u

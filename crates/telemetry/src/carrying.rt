@@ -3,6 +3,7 @@ ghost use Rattle.std.specs.Prelude.{◌≡◌};
 ghost use Rattle.records.specs.Reader.{bytes_of};
 ghost use Rattle.telemetry.specs.Reports.{entry_of, by_entry, reports};
 
+use super::making::count_records;
 use super::report::Report;
 use crossbar::{Carrier, Start};
 use lines::{Downlink, Uplink};
@@ -13,28 +14,22 @@ fn reported(taken: &Record<'_>, up: Uplink, down: Downlink, units: u16) -> u16
     ensures { result ≡ by_entry (entry_of (bytes_of taken.now) up.0) down.0 units }
 {
     match taken.entry(up) {
-        None => 0,
-        Some(entry) => {
-            if entry.down == down {
-                units.min(entry.units)
-            } else {
-                0
-            }
-        }
+        Some(entry) if entry.down == down => units.min(entry.units),
+        _ => 0,
     }
 }
 
 impl<'a> Carrier for Report<'a> {
-    ghost carries = { λ s t r i j u. reports s.file.now s.records r i j u };
+    ghost carries = { λ s t r i j u. reports s.file.now r i j u };
 
     fn carry(&self, start: Start, up: Uplink, down: Downlink, units: u16) -> u16 {
-        if start.room >= self.records {
+        let records = count_records(self.file);
+        if start.room >= records {
             return 0;
         }
-        let n = self.records - start.room - 1;
-        match read_record(self.file, n as usize) {
-            None => 0,
-            Some(taken) => reported(&taken, up, down, units),
-        }
+        read_record(self.file, usize::from(records - start.room - 1)).map_or(
+            0,
+            |taken| reported(&taken, up, down, units),
+        )
     }
 }

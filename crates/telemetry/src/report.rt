@@ -1,6 +1,5 @@
-// The file of a telemetry switch, and how many of its records there were to read when the switch was made.
+// What a telemetry switch reads: a file whose records say what each mode carried.
 #[derive(Clone, Copy)]
 pub struct Report<'a> {
     pub(super) file: &'a [u8],
-    pub(super) records: u16,
 }

@@ -27,7 +27,7 @@ loop-i-preserved g c =
     let m = g.S.Switch.meaning in
     let x = mode c.args.token.now.dwell c.args.row.now in
     let long : length c.args.row.now ≡ 16 = search rules in
-    elim c.match-row-i.branch [
+    elim c.match-entry.branch [
       | goal.in-Some+in_ok-grant w ↦ rw w.s-is (grows x (m c.args.s.now) long c.loop-i.i (m c.loop-i.s) (m w.grant.new.s) w.in-Some.join c.loop-i-test.true c.loop-i.invariant w.in-Some.is (was_accepted _ w.grant.ensures.answer w.in_ok-grant.was) w.grant.ensures.after)
       | goal.in_default w ↦ rw w.s-is (idles x (m c.args.s.now) long c.loop-i.i (m c.loop-i.s) c.loop-i.invariant w.in_default.is)
     ]

@@ -16,8 +16,6 @@ invariant_of-self c =
     let s = c.args.self.now in
     let fits : c.args.dwell ≤ 65535 = search rules in
     record {
-      some_line = s.some_line;
-      few_lines = s.few_lines;
       time_left = omega (arith, s.time_left, under_way_in s.mode c.requires.stands, fits);
       rows = c.add_outcomes.ensures.rows;
       carried_in_time = λ i j. omega (arith, c.add_outcomes.ensures.each i j, s.carried_in_time i j, units_in s.mode i j (get_or c.args.all i None) c.requires.stands (c.requires.carry i), s.units_kept i);
