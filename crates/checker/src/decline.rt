@@ -2,7 +2,7 @@
 ghost use Rattle.std.specs.Prelude.{◌≡◌};
 ghost use Rattle.checker.specs.Check.{number, place};
 
-use lines::{Crosspoint, Place};
+use lines::{Crosspoint, Decline, Place};
 
 #[derive(Clone, Copy, PartialEq, Eq, Debug)]
 pub enum CheckDecline {
@@ -14,10 +14,12 @@ pub enum CheckDecline {
     Differs(Crosspoint),
 }
 
-impl CheckDecline {
-    pub fn number(&self) -> u8
-        ensures { result ≡ number self.now }
-    {
+impl Decline for CheckDecline {
+    ghost number = { number };
+
+    ghost place = { place };
+
+    fn number(&self) -> u16 {
         match *self {
             CheckDecline::Size => 15,
             CheckDecline::Improper(_) => 17,
@@ -25,9 +27,7 @@ impl CheckDecline {
         }
     }
 
-    pub fn place(&self) -> Place
-        ensures { result ≡ place self.now }
-    {
+    fn place(&self) -> Place {
         match *self {
             CheckDecline::Size => Place::Nowhere,
             CheckDecline::Improper(record) => Place::AtRecord(record),

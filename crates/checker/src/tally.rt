@@ -6,7 +6,9 @@ ghost use Rattle.schedule.specs.Modes.{units_to, granted, Sound};
 ghost use Rattle.records.specs.Files.{count, FirstImproper};
 ghost use Rattle.checker.specs.Check.{Sized, Tallied};
 
-use records::read_record;
+use super::decline::CheckDecline;
+use lines::Lines;
+use records::read_records;
 use schedule::{Join as Grant, Mode};
 
 // The length of a schedule and the units that it grants. A schedule of 65,535 modes is shorter than 2 to the 32.
@@ -22,40 +24,36 @@ fn add_grant(row: &mut [u32; 16], grant: Option<Grant>)
     requires small { (y : ℕ) → y < 16 → slice_index row.old y + units_to y grant ≤ 4294967295 }
     ensures { (y : ℕ) → slice_index row.new y ≡ slice_index row.old y + units_to y grant }
 {
-    match grant {
-        None => (),
-        Some(join) => row[usize::from(join.down.0)] += u32::from(join.units),
+    if let Some(join) = grant {
+        row[usize::from(join.down.0)] += u32::from(join.units);
     }
 }
 
 // Adds the grants of a mode to the totals.
-fn add_mode(lines: usize, mode: &Mode, totals: &mut [[u32; 16]; 16])
-    requires size { lines ≤ 16 }
-    requires sound { Sound lines mode.now }
-    requires small { (x y : ℕ) → x < lines → y < 16 → cells totals.old x y + mode.now.dwell ≤ 4294967295 }
-    ensures { (x y : ℕ) → x < lines → cells totals.new x y ≡ cells totals.old x y + granted mode.now x y }
+fn add_mode(lines: Lines, mode: &Mode, totals: &mut [[u32; 16]; 16])
+    requires sound { Sound lines.count mode.now }
+    requires small { (x y : ℕ) → x < lines.count → y < 16 → cells totals.old x y + mode.now.dwell ≤ 4294967295 }
+    ensures { (x y : ℕ) → x < lines.count → cells totals.new x y ≡ cells totals.old x y + granted mode.now x y }
 {
-    for i in 0..lines {
-        add_grant(&mut totals[i], mode.row[i]);
+    // The rows are reached by places, and not by `iter_mut` and `zip`, after which it is not known what they hold.
+    for (i, grant) in mode.row[0..lines.count()].iter().enumerate() {
+        add_grant(&mut totals[i], *grant);
     }
 }
 
-// The tally of all records, or the place of the first that is no mode of so many lines.
-pub(super) fn add_up(lines: usize, file: &[u8]) -> Result<Tally, usize>
-    requires size { lines ≤ 16 }
+// The tally of all records, unless one is no mode of so many lines.
+pub(super) fn add_up(lines: Lines, file: &[u8]) -> Result<Tally, CheckDecline>
     requires sized { Sized file.now }
-    ensures { MatchResult result (λ t. Tallied lines file.now (count file.now) t.length (cells t.totals)) (λ k. FirstImproper lines file.now k) }
+    ensures { MatchResult result (λ t. Tallied lines.count file.now (count file.now) t.length (cells t.totals)) (λ e. (k : ℕ) × (e ≡ CheckDecline.Improper k) × FirstImproper lines.count file.now k) }
 {
     let mut totals = [[0u32; 16]; 16];
     let mut length: u32 = 0;
-    let mut k: usize = 0;
-    while let Some(record) = read_record(file, k) {
-        let Some(mode) = record.checked_mode(lines) else {
-            return Err(record.place());
-        };
+    for record in read_records(file) {
+        let mode = record
+            .checked_mode(lines.count())
+            .ok_or(CheckDecline::Improper(record.place()))?;
         add_mode(lines, &mode, &mut totals);
         length += u32::from(mode.dwell);
-        k += 1;
     }
     Ok(Tally { length, totals })
 }

@@ -1,5 +1,5 @@
 // The verdict on a file.
-ghost use Rattle.std.specs.Prelude.{is_ok, Decides, MatchOption};
+ghost use Rattle.std.specs.Prelude.{◌≡◌, ℕ, ◌<◌, ◌≢◌, is_ok, Decides, MatchOption, slice_index};
 ghost use Rattle.lines.specs.Matrix.{cells, Same};
 ghost use Rattle.owed.specs.Calls.{lines_of, units_of};
 ghost use Rattle.records.specs.Files.{count, Schedules};
@@ -7,7 +7,7 @@ ghost use Rattle.checker.specs.Check.{FirstDiffers, Sized, Tallied, Served, Miss
 
 use super::decline::CheckDecline;
 use super::tally::{Tally, add_up};
-use lines::{Crosspoint, Downlink, Uplink};
+use lines::{Crosspoint, Downlink, Lines, Uplink};
 use owed::Owed;
 use records::record_count;
 
@@ -18,29 +18,33 @@ const MOST_RECORDS: usize = 65535;
 #[derive(Clone, Copy, PartialEq, Eq, Debug)]
 pub struct Checked {
     pub length: u32,
+    // a finding, and no mark that the length holds
     pub shortest: bool,
+}
+
+// The first of so many downlinks at which two rows differ; by place, since the place is the answer.
+fn first_in_row(lines: Lines, ours: &[u32; 16], theirs: &[u32; 16]) -> Option<usize>
+    ensures { MatchOption result ((j : ℕ) → j < lines.count → slice_index ours.now j ≡ slice_index theirs.now j) (λ j. (j < lines.count) × (slice_index ours.now j ≢ slice_index theirs.now j) × ((k : ℕ) → k < j → slice_index ours.now k ≡ slice_index theirs.now k)) }
+{
+    (0..lines.count()).find(|j| ours[*j] != theirs[*j])
 }
 
 // The first crosspoint at which the totals are not what is owed.
 fn first_difference(owed: &Owed, totals: &[[u32; 16]; 16]) -> Option<Crosspoint>
     ensures { MatchOption result (Same (lines_of owed.now) (cells totals.now) (units_of owed.now)) (FirstDiffers (lines_of owed.now) (cells totals.now) (units_of owed.now)) }
 {
-    let lines = owed.lines();
+    let lines = owed.line_count();
     let rows = owed.rows();
-    for i in 0..lines {
-        for j in 0..lines {
-            if totals[i][j] != rows[i][j] {
-                return Some(Crosspoint {
-                    up: Uplink(i as u16),
-                    down: Downlink(j as u16),
-                });
-            }
-        }
-    }
-    None
+    (0..lines.count()).find_map(|i| {
+        let j = first_in_row(lines, &totals[i], &rows[i])?;
+        Some(Crosspoint {
+            up: Uplink(i as u16),
+            down: Downlink(j as u16),
+        })
+    })
 }
 
-// The first crosspoint at which a file of modes with this tally grants other units than are owed.
+// The first crosspoint at which a file of modes with this tally grants other units than are owed. That the file is whole records is a fact of a lent slice: one call would make a struct for it, and two would read it.
 fn first_missed(owed: &Owed, file: &[u8], tally: &Tally) -> Option<Crosspoint>
     requires sized { Sized file.now }
     requires tallied { Tallied (lines_of owed.now) file.now (count file.now) tally.now.length (cells tally.now.totals) }
@@ -70,14 +74,9 @@ pub fn check(owed: &Owed, file: &[u8]) -> Result<Checked, CheckDecline>
     ensures sole { Sole (lines_of owed.now) (units_of owed.now) file.now result }
     ensures exact { Decides (is_ok result) (Schedules (lines_of owed.now) (units_of owed.now) file.now) }
 {
-    let Some(records) = record_count(file) else {
-        return Err(CheckDecline::Size);
-    };
-    if records > MOST_RECORDS {
-        return Err(CheckDecline::Size);
-    }
-    match add_up(owed.lines(), file) {
-        Err(record) => Err(CheckDecline::Improper(record)),
-        Ok(tally) => judge(owed, file, &tally),
-    }
+    record_count(file)
+        .filter(|records| *records <= MOST_RECORDS)
+        .ok_or(CheckDecline::Size)?;
+    let tally = add_up(owed.line_count(), file)?;
+    judge(owed, file, &tally)
 }

@@ -1,4 +1,5 @@
 // Files without records, parked uplinks, and files at the limits.
+use super::matrices::owes;
 use checker::{CheckDecline, Checked, check as check_file};
 use lines::{Crosspoint, Downlink, Uplink};
 use owed::Owed;
@@ -10,12 +11,6 @@ const PARKED: [u8; 52] = [
     255, 0, 0, 255, 0, 0, 255, 0, 0, 255, 0, 0, 255, 0, 0, 255, 0, 0, 255, 0, 0, 255, 0, 0, 255, 0,
     0,
 ];
-
-fn owes(lines: usize, i: u16, j: u16, units: u32) -> Result<Owed, Fail> {
-    let mut owed = Owed::new(lines)?;
-    owed.add(Uplink(i), Downlink(j), units)?;
-    Ok(owed)
-}
 
 #[test]
 fn nothing_serves_nothing(rt: HostRuntime) -> Result<(), Fail> {
@@ -32,7 +27,7 @@ fn nothing_serves_nothing(rt: HostRuntime) -> Result<(), Fail> {
 
 #[test]
 fn nothing_serves_no_unit(rt: HostRuntime) -> Result<(), Fail> {
-    let owed = owes(3, 2, 1, 1)?;
+    let owed = owes(3, &[(2, 1, 1)])?;
     assert_eq!(rt;
         check_file(&owed, &[]),
         Err(CheckDecline::Differs(Crosspoint {
@@ -53,7 +48,7 @@ fn parked_uplinks_carry_nothing(rt: HostRuntime) -> Result<(), Fail> {
             shortest: false,
         })
     );
-    let owed = owes(2, 0, 0, 1)?;
+    let owed = owes(2, &[(0, 0, 1)])?;
     assert_eq!(rt;
         check_file(&owed, &PARKED),
         Err(CheckDecline::Differs(Crosspoint {

@@ -1,4 +1,5 @@
 // Every byte of a file of two records, changed to every other value.
+use super::matrices::owes;
 use checker::{CheckDecline, Checked, check as check_file};
 use lines::{Crosspoint, Downlink, Uplink};
 use owed::Owed;
@@ -24,772 +25,152 @@ enum Expected {
     Differs(u16, u16),
 }
 
-// The byte at a place, and a range of values for it, both ends included.
+// A byte's place, the first and the last of a range of values for it, and what the checker is to answer then.
 #[derive(Clone, Copy)]
-struct Damage {
-    at: usize,
-    first: u8,
-    last: u8,
-    answer: Expected,
-}
+struct Damage(usize, u8, u8, Expected);
 
 const DAMAGES: [Damage; 125] = [
-    Damage {
-        at: 0,
-        first: 0,
-        last: 0,
-        answer: Expected::Improper(0),
-    },
-    Damage {
-        at: 0,
-        first: 2,
-        last: 255,
-        answer: Expected::Length {
+    Damage(0, 0, 0, Expected::Improper(0)),
+    Damage(
+        0,
+        2,
+        255,
+        Expected::Length {
             base: 45,
             step: 256,
         },
-    },
-    Damage {
-        at: 1,
-        first: 0,
-        last: 43,
-        answer: Expected::Improper(0),
-    },
-    Damage {
-        at: 1,
-        first: 45,
-        last: 255,
-        answer: Expected::Length { base: 257, step: 1 },
-    },
-    Damage {
-        at: 2,
-        first: 0,
-        last: 2,
-        answer: Expected::Improper(0),
-    },
-    Damage {
-        at: 2,
-        first: 4,
-        last: 255,
-        answer: Expected::Improper(0),
-    },
-    Damage {
-        at: 3,
-        first: 1,
-        last: 255,
-        answer: Expected::Improper(0),
-    },
-    Damage {
-        at: 4,
-        first: 0,
-        last: 0,
-        answer: Expected::Improper(0),
-    },
-    Damage {
-        at: 4,
-        first: 2,
-        last: 2,
-        answer: Expected::Differs(0, 1),
-    },
-    Damage {
-        at: 4,
-        first: 3,
-        last: 255,
-        answer: Expected::Improper(0),
-    },
-    Damage {
-        at: 5,
-        first: 0,
-        last: 0,
-        answer: Expected::Differs(0, 1),
-    },
-    Damage {
-        at: 5,
-        first: 2,
-        last: 255,
-        answer: Expected::Improper(0),
-    },
-    Damage {
-        at: 6,
-        first: 0,
-        last: 43,
-        answer: Expected::Differs(0, 1),
-    },
-    Damage {
-        at: 6,
-        first: 45,
-        last: 255,
-        answer: Expected::Improper(0),
-    },
-    Damage {
-        at: 7,
-        first: 1,
-        last: 1,
-        answer: Expected::Improper(0),
-    },
-    Damage {
-        at: 7,
-        first: 2,
-        last: 2,
-        answer: Expected::Differs(1, 0),
-    },
-    Damage {
-        at: 7,
-        first: 3,
-        last: 255,
-        answer: Expected::Improper(0),
-    },
-    Damage {
-        at: 8,
-        first: 1,
-        last: 1,
-        answer: Expected::Differs(1, 0),
-    },
-    Damage {
-        at: 8,
-        first: 2,
-        last: 255,
-        answer: Expected::Improper(0),
-    },
-    Damage {
-        at: 9,
-        first: 0,
-        last: 0,
-        answer: Expected::Improper(0),
-    },
-    Damage {
-        at: 9,
-        first: 1,
-        last: 43,
-        answer: Expected::Differs(1, 0),
-    },
-    Damage {
-        at: 9,
-        first: 45,
-        last: 255,
-        answer: Expected::Differs(1, 0),
-    },
-    Damage {
-        at: 10,
-        first: 0,
-        last: 253,
-        answer: Expected::Improper(0),
-    },
-    Damage {
-        at: 10,
-        first: 255,
-        last: 255,
-        answer: Expected::Length { base: 301, step: 0 },
-    },
-    Damage {
-        at: 11,
-        first: 1,
-        last: 255,
-        answer: Expected::Improper(0),
-    },
-    Damage {
-        at: 12,
-        first: 1,
-        last: 255,
-        answer: Expected::Improper(0),
-    },
-    Damage {
-        at: 13,
-        first: 0,
-        last: 254,
-        answer: Expected::Improper(0),
-    },
-    Damage {
-        at: 14,
-        first: 1,
-        last: 255,
-        answer: Expected::Improper(0),
-    },
-    Damage {
-        at: 15,
-        first: 1,
-        last: 255,
-        answer: Expected::Improper(0),
-    },
-    Damage {
-        at: 16,
-        first: 0,
-        last: 254,
-        answer: Expected::Improper(0),
-    },
-    Damage {
-        at: 17,
-        first: 1,
-        last: 255,
-        answer: Expected::Improper(0),
-    },
-    Damage {
-        at: 18,
-        first: 1,
-        last: 255,
-        answer: Expected::Improper(0),
-    },
-    Damage {
-        at: 19,
-        first: 0,
-        last: 254,
-        answer: Expected::Improper(0),
-    },
-    Damage {
-        at: 20,
-        first: 1,
-        last: 255,
-        answer: Expected::Improper(0),
-    },
-    Damage {
-        at: 21,
-        first: 1,
-        last: 255,
-        answer: Expected::Improper(0),
-    },
-    Damage {
-        at: 22,
-        first: 0,
-        last: 254,
-        answer: Expected::Improper(0),
-    },
-    Damage {
-        at: 23,
-        first: 1,
-        last: 255,
-        answer: Expected::Improper(0),
-    },
-    Damage {
-        at: 24,
-        first: 1,
-        last: 255,
-        answer: Expected::Improper(0),
-    },
-    Damage {
-        at: 25,
-        first: 0,
-        last: 254,
-        answer: Expected::Improper(0),
-    },
-    Damage {
-        at: 26,
-        first: 1,
-        last: 255,
-        answer: Expected::Improper(0),
-    },
-    Damage {
-        at: 27,
-        first: 1,
-        last: 255,
-        answer: Expected::Improper(0),
-    },
-    Damage {
-        at: 28,
-        first: 0,
-        last: 254,
-        answer: Expected::Improper(0),
-    },
-    Damage {
-        at: 29,
-        first: 1,
-        last: 255,
-        answer: Expected::Improper(0),
-    },
-    Damage {
-        at: 30,
-        first: 1,
-        last: 255,
-        answer: Expected::Improper(0),
-    },
-    Damage {
-        at: 31,
-        first: 0,
-        last: 254,
-        answer: Expected::Improper(0),
-    },
-    Damage {
-        at: 32,
-        first: 1,
-        last: 255,
-        answer: Expected::Improper(0),
-    },
-    Damage {
-        at: 33,
-        first: 1,
-        last: 255,
-        answer: Expected::Improper(0),
-    },
-    Damage {
-        at: 34,
-        first: 0,
-        last: 254,
-        answer: Expected::Improper(0),
-    },
-    Damage {
-        at: 35,
-        first: 1,
-        last: 255,
-        answer: Expected::Improper(0),
-    },
-    Damage {
-        at: 36,
-        first: 1,
-        last: 255,
-        answer: Expected::Improper(0),
-    },
-    Damage {
-        at: 37,
-        first: 0,
-        last: 254,
-        answer: Expected::Improper(0),
-    },
-    Damage {
-        at: 38,
-        first: 1,
-        last: 255,
-        answer: Expected::Improper(0),
-    },
-    Damage {
-        at: 39,
-        first: 1,
-        last: 255,
-        answer: Expected::Improper(0),
-    },
-    Damage {
-        at: 40,
-        first: 0,
-        last: 254,
-        answer: Expected::Improper(0),
-    },
-    Damage {
-        at: 41,
-        first: 1,
-        last: 255,
-        answer: Expected::Improper(0),
-    },
-    Damage {
-        at: 42,
-        first: 1,
-        last: 255,
-        answer: Expected::Improper(0),
-    },
-    Damage {
-        at: 43,
-        first: 0,
-        last: 254,
-        answer: Expected::Improper(0),
-    },
-    Damage {
-        at: 44,
-        first: 1,
-        last: 255,
-        answer: Expected::Improper(0),
-    },
-    Damage {
-        at: 45,
-        first: 1,
-        last: 255,
-        answer: Expected::Improper(0),
-    },
-    Damage {
-        at: 46,
-        first: 0,
-        last: 254,
-        answer: Expected::Improper(0),
-    },
-    Damage {
-        at: 47,
-        first: 1,
-        last: 255,
-        answer: Expected::Improper(0),
-    },
-    Damage {
-        at: 48,
-        first: 1,
-        last: 255,
-        answer: Expected::Improper(0),
-    },
-    Damage {
-        at: 49,
-        first: 0,
-        last: 254,
-        answer: Expected::Improper(0),
-    },
-    Damage {
-        at: 50,
-        first: 1,
-        last: 255,
-        answer: Expected::Improper(0),
-    },
-    Damage {
-        at: 51,
-        first: 1,
-        last: 255,
-        answer: Expected::Improper(0),
-    },
-    Damage {
-        at: 52,
-        first: 1,
-        last: 255,
-        answer: Expected::Length {
+    ),
+    Damage(1, 0, 43, Expected::Improper(0)),
+    Damage(1, 45, 255, Expected::Length { base: 257, step: 1 }),
+    Damage(2, 0, 2, Expected::Improper(0)),
+    Damage(2, 4, 255, Expected::Improper(0)),
+    Damage(3, 1, 255, Expected::Improper(0)),
+    Damage(4, 0, 0, Expected::Improper(0)),
+    Damage(4, 2, 2, Expected::Differs(0, 1)),
+    Damage(4, 3, 255, Expected::Improper(0)),
+    Damage(5, 0, 0, Expected::Differs(0, 1)),
+    Damage(5, 2, 255, Expected::Improper(0)),
+    Damage(6, 0, 43, Expected::Differs(0, 1)),
+    Damage(6, 45, 255, Expected::Improper(0)),
+    Damage(7, 1, 1, Expected::Improper(0)),
+    Damage(7, 2, 2, Expected::Differs(1, 0)),
+    Damage(7, 3, 255, Expected::Improper(0)),
+    Damage(8, 1, 1, Expected::Differs(1, 0)),
+    Damage(8, 2, 255, Expected::Improper(0)),
+    Damage(9, 0, 0, Expected::Improper(0)),
+    Damage(9, 1, 43, Expected::Differs(1, 0)),
+    Damage(9, 45, 255, Expected::Differs(1, 0)),
+    Damage(10, 0, 253, Expected::Improper(0)),
+    Damage(10, 255, 255, Expected::Length { base: 301, step: 0 }),
+    Damage(11, 1, 255, Expected::Improper(0)),
+    Damage(12, 1, 255, Expected::Improper(0)),
+    Damage(13, 0, 254, Expected::Improper(0)),
+    Damage(14, 1, 255, Expected::Improper(0)),
+    Damage(15, 1, 255, Expected::Improper(0)),
+    Damage(16, 0, 254, Expected::Improper(0)),
+    Damage(17, 1, 255, Expected::Improper(0)),
+    Damage(18, 1, 255, Expected::Improper(0)),
+    Damage(19, 0, 254, Expected::Improper(0)),
+    Damage(20, 1, 255, Expected::Improper(0)),
+    Damage(21, 1, 255, Expected::Improper(0)),
+    Damage(22, 0, 254, Expected::Improper(0)),
+    Damage(23, 1, 255, Expected::Improper(0)),
+    Damage(24, 1, 255, Expected::Improper(0)),
+    Damage(25, 0, 254, Expected::Improper(0)),
+    Damage(26, 1, 255, Expected::Improper(0)),
+    Damage(27, 1, 255, Expected::Improper(0)),
+    Damage(28, 0, 254, Expected::Improper(0)),
+    Damage(29, 1, 255, Expected::Improper(0)),
+    Damage(30, 1, 255, Expected::Improper(0)),
+    Damage(31, 0, 254, Expected::Improper(0)),
+    Damage(32, 1, 255, Expected::Improper(0)),
+    Damage(33, 1, 255, Expected::Improper(0)),
+    Damage(34, 0, 254, Expected::Improper(0)),
+    Damage(35, 1, 255, Expected::Improper(0)),
+    Damage(36, 1, 255, Expected::Improper(0)),
+    Damage(37, 0, 254, Expected::Improper(0)),
+    Damage(38, 1, 255, Expected::Improper(0)),
+    Damage(39, 1, 255, Expected::Improper(0)),
+    Damage(40, 0, 254, Expected::Improper(0)),
+    Damage(41, 1, 255, Expected::Improper(0)),
+    Damage(42, 1, 255, Expected::Improper(0)),
+    Damage(43, 0, 254, Expected::Improper(0)),
+    Damage(44, 1, 255, Expected::Improper(0)),
+    Damage(45, 1, 255, Expected::Improper(0)),
+    Damage(46, 0, 254, Expected::Improper(0)),
+    Damage(47, 1, 255, Expected::Improper(0)),
+    Damage(48, 1, 255, Expected::Improper(0)),
+    Damage(49, 0, 254, Expected::Improper(0)),
+    Damage(50, 1, 255, Expected::Improper(0)),
+    Damage(51, 1, 255, Expected::Improper(0)),
+    Damage(
+        52,
+        1,
+        255,
+        Expected::Length {
             base: 301,
             step: 256,
         },
-    },
-    Damage {
-        at: 53,
-        first: 0,
-        last: 0,
-        answer: Expected::Improper(1),
-    },
-    Damage {
-        at: 53,
-        first: 2,
-        last: 255,
-        answer: Expected::Length { base: 300, step: 1 },
-    },
-    Damage {
-        at: 54,
-        first: 0,
-        last: 2,
-        answer: Expected::Improper(1),
-    },
-    Damage {
-        at: 54,
-        first: 4,
-        last: 255,
-        answer: Expected::Improper(1),
-    },
-    Damage {
-        at: 55,
-        first: 1,
-        last: 255,
-        answer: Expected::Improper(1),
-    },
-    Damage {
-        at: 56,
-        first: 1,
-        last: 1,
-        answer: Expected::Differs(0, 0),
-    },
-    Damage {
-        at: 56,
-        first: 2,
-        last: 255,
-        answer: Expected::Improper(1),
-    },
-    Damage {
-        at: 57,
-        first: 1,
-        last: 255,
-        answer: Expected::Improper(1),
-    },
-    Damage {
-        at: 58,
-        first: 0,
-        last: 0,
-        answer: Expected::Improper(1),
-    },
-    Damage {
-        at: 58,
-        first: 2,
-        last: 255,
-        answer: Expected::Improper(1),
-    },
-    Damage {
-        at: 59,
-        first: 0,
-        last: 253,
-        answer: Expected::Improper(1),
-    },
-    Damage {
-        at: 59,
-        first: 254,
-        last: 254,
-        answer: Expected::Length { base: 301, step: 0 },
-    },
-    Damage {
-        at: 60,
-        first: 1,
-        last: 255,
-        answer: Expected::Improper(1),
-    },
-    Damage {
-        at: 61,
-        first: 1,
-        last: 255,
-        answer: Expected::Improper(1),
-    },
-    Damage {
-        at: 62,
-        first: 0,
-        last: 0,
-        answer: Expected::Improper(1),
-    },
-    Damage {
-        at: 62,
-        first: 1,
-        last: 1,
-        answer: Expected::Differs(2, 1),
-    },
-    Damage {
-        at: 62,
-        first: 3,
-        last: 255,
-        answer: Expected::Improper(1),
-    },
-    Damage {
-        at: 63,
-        first: 1,
-        last: 255,
-        answer: Expected::Improper(1),
-    },
-    Damage {
-        at: 64,
-        first: 0,
-        last: 0,
-        answer: Expected::Improper(1),
-    },
-    Damage {
-        at: 64,
-        first: 2,
-        last: 255,
-        answer: Expected::Improper(1),
-    },
-    Damage {
-        at: 65,
-        first: 0,
-        last: 254,
-        answer: Expected::Improper(1),
-    },
-    Damage {
-        at: 66,
-        first: 1,
-        last: 255,
-        answer: Expected::Improper(1),
-    },
-    Damage {
-        at: 67,
-        first: 1,
-        last: 255,
-        answer: Expected::Improper(1),
-    },
-    Damage {
-        at: 68,
-        first: 0,
-        last: 254,
-        answer: Expected::Improper(1),
-    },
-    Damage {
-        at: 69,
-        first: 1,
-        last: 255,
-        answer: Expected::Improper(1),
-    },
-    Damage {
-        at: 70,
-        first: 1,
-        last: 255,
-        answer: Expected::Improper(1),
-    },
-    Damage {
-        at: 71,
-        first: 0,
-        last: 254,
-        answer: Expected::Improper(1),
-    },
-    Damage {
-        at: 72,
-        first: 1,
-        last: 255,
-        answer: Expected::Improper(1),
-    },
-    Damage {
-        at: 73,
-        first: 1,
-        last: 255,
-        answer: Expected::Improper(1),
-    },
-    Damage {
-        at: 74,
-        first: 0,
-        last: 254,
-        answer: Expected::Improper(1),
-    },
-    Damage {
-        at: 75,
-        first: 1,
-        last: 255,
-        answer: Expected::Improper(1),
-    },
-    Damage {
-        at: 76,
-        first: 1,
-        last: 255,
-        answer: Expected::Improper(1),
-    },
-    Damage {
-        at: 77,
-        first: 0,
-        last: 254,
-        answer: Expected::Improper(1),
-    },
-    Damage {
-        at: 78,
-        first: 1,
-        last: 255,
-        answer: Expected::Improper(1),
-    },
-    Damage {
-        at: 79,
-        first: 1,
-        last: 255,
-        answer: Expected::Improper(1),
-    },
-    Damage {
-        at: 80,
-        first: 0,
-        last: 254,
-        answer: Expected::Improper(1),
-    },
-    Damage {
-        at: 81,
-        first: 1,
-        last: 255,
-        answer: Expected::Improper(1),
-    },
-    Damage {
-        at: 82,
-        first: 1,
-        last: 255,
-        answer: Expected::Improper(1),
-    },
-    Damage {
-        at: 83,
-        first: 0,
-        last: 254,
-        answer: Expected::Improper(1),
-    },
-    Damage {
-        at: 84,
-        first: 1,
-        last: 255,
-        answer: Expected::Improper(1),
-    },
-    Damage {
-        at: 85,
-        first: 1,
-        last: 255,
-        answer: Expected::Improper(1),
-    },
-    Damage {
-        at: 86,
-        first: 0,
-        last: 254,
-        answer: Expected::Improper(1),
-    },
-    Damage {
-        at: 87,
-        first: 1,
-        last: 255,
-        answer: Expected::Improper(1),
-    },
-    Damage {
-        at: 88,
-        first: 1,
-        last: 255,
-        answer: Expected::Improper(1),
-    },
-    Damage {
-        at: 89,
-        first: 0,
-        last: 254,
-        answer: Expected::Improper(1),
-    },
-    Damage {
-        at: 90,
-        first: 1,
-        last: 255,
-        answer: Expected::Improper(1),
-    },
-    Damage {
-        at: 91,
-        first: 1,
-        last: 255,
-        answer: Expected::Improper(1),
-    },
-    Damage {
-        at: 92,
-        first: 0,
-        last: 254,
-        answer: Expected::Improper(1),
-    },
-    Damage {
-        at: 93,
-        first: 1,
-        last: 255,
-        answer: Expected::Improper(1),
-    },
-    Damage {
-        at: 94,
-        first: 1,
-        last: 255,
-        answer: Expected::Improper(1),
-    },
-    Damage {
-        at: 95,
-        first: 0,
-        last: 254,
-        answer: Expected::Improper(1),
-    },
-    Damage {
-        at: 96,
-        first: 1,
-        last: 255,
-        answer: Expected::Improper(1),
-    },
-    Damage {
-        at: 97,
-        first: 1,
-        last: 255,
-        answer: Expected::Improper(1),
-    },
-    Damage {
-        at: 98,
-        first: 0,
-        last: 254,
-        answer: Expected::Improper(1),
-    },
-    Damage {
-        at: 99,
-        first: 1,
-        last: 255,
-        answer: Expected::Improper(1),
-    },
-    Damage {
-        at: 100,
-        first: 1,
-        last: 255,
-        answer: Expected::Improper(1),
-    },
-    Damage {
-        at: 101,
-        first: 0,
-        last: 254,
-        answer: Expected::Improper(1),
-    },
-    Damage {
-        at: 102,
-        first: 1,
-        last: 255,
-        answer: Expected::Improper(1),
-    },
-    Damage {
-        at: 103,
-        first: 1,
-        last: 255,
-        answer: Expected::Improper(1),
-    },
+    ),
+    Damage(53, 0, 0, Expected::Improper(1)),
+    Damage(53, 2, 255, Expected::Length { base: 300, step: 1 }),
+    Damage(54, 0, 2, Expected::Improper(1)),
+    Damage(54, 4, 255, Expected::Improper(1)),
+    Damage(55, 1, 255, Expected::Improper(1)),
+    Damage(56, 1, 1, Expected::Differs(0, 0)),
+    Damage(56, 2, 255, Expected::Improper(1)),
+    Damage(57, 1, 255, Expected::Improper(1)),
+    Damage(58, 0, 0, Expected::Improper(1)),
+    Damage(58, 2, 255, Expected::Improper(1)),
+    Damage(59, 0, 253, Expected::Improper(1)),
+    Damage(59, 254, 254, Expected::Length { base: 301, step: 0 }),
+    Damage(60, 1, 255, Expected::Improper(1)),
+    Damage(61, 1, 255, Expected::Improper(1)),
+    Damage(62, 0, 0, Expected::Improper(1)),
+    Damage(62, 1, 1, Expected::Differs(2, 1)),
+    Damage(62, 3, 255, Expected::Improper(1)),
+    Damage(63, 1, 255, Expected::Improper(1)),
+    Damage(64, 0, 0, Expected::Improper(1)),
+    Damage(64, 2, 255, Expected::Improper(1)),
+    Damage(65, 0, 254, Expected::Improper(1)),
+    Damage(66, 1, 255, Expected::Improper(1)),
+    Damage(67, 1, 255, Expected::Improper(1)),
+    Damage(68, 0, 254, Expected::Improper(1)),
+    Damage(69, 1, 255, Expected::Improper(1)),
+    Damage(70, 1, 255, Expected::Improper(1)),
+    Damage(71, 0, 254, Expected::Improper(1)),
+    Damage(72, 1, 255, Expected::Improper(1)),
+    Damage(73, 1, 255, Expected::Improper(1)),
+    Damage(74, 0, 254, Expected::Improper(1)),
+    Damage(75, 1, 255, Expected::Improper(1)),
+    Damage(76, 1, 255, Expected::Improper(1)),
+    Damage(77, 0, 254, Expected::Improper(1)),
+    Damage(78, 1, 255, Expected::Improper(1)),
+    Damage(79, 1, 255, Expected::Improper(1)),
+    Damage(80, 0, 254, Expected::Improper(1)),
+    Damage(81, 1, 255, Expected::Improper(1)),
+    Damage(82, 1, 255, Expected::Improper(1)),
+    Damage(83, 0, 254, Expected::Improper(1)),
+    Damage(84, 1, 255, Expected::Improper(1)),
+    Damage(85, 1, 255, Expected::Improper(1)),
+    Damage(86, 0, 254, Expected::Improper(1)),
+    Damage(87, 1, 255, Expected::Improper(1)),
+    Damage(88, 1, 255, Expected::Improper(1)),
+    Damage(89, 0, 254, Expected::Improper(1)),
+    Damage(90, 1, 255, Expected::Improper(1)),
+    Damage(91, 1, 255, Expected::Improper(1)),
+    Damage(92, 0, 254, Expected::Improper(1)),
+    Damage(93, 1, 255, Expected::Improper(1)),
+    Damage(94, 1, 255, Expected::Improper(1)),
+    Damage(95, 0, 254, Expected::Improper(1)),
+    Damage(96, 1, 255, Expected::Improper(1)),
+    Damage(97, 1, 255, Expected::Improper(1)),
+    Damage(98, 0, 254, Expected::Improper(1)),
+    Damage(99, 1, 255, Expected::Improper(1)),
+    Damage(100, 1, 255, Expected::Improper(1)),
+    Damage(101, 0, 254, Expected::Improper(1)),
+    Damage(102, 1, 255, Expected::Improper(1)),
+    Damage(103, 1, 255, Expected::Improper(1)),
 ];
 
 fn answer_to(expected: Expected, value: u8) -> Result<Checked, CheckDecline> {
@@ -811,30 +192,26 @@ fn answer_to(expected: Expected, value: u8) -> Result<Checked, CheckDecline> {
 
 // What the file serves: its busiest line is uplink 0.
 fn served() -> Result<Owed, Fail> {
-    let mut owed = Owed::new(3)?;
-    owed.add(Uplink(0), Downlink(0), 1)?;
-    owed.add(Uplink(0), Downlink(1), 300)?;
-    owed.add(Uplink(1), Downlink(0), 44)?;
-    owed.add(Uplink(2), Downlink(2), 1)?;
-    Ok(owed)
+    owes(3, &[(0, 0, 1), (0, 1, 300), (1, 0, 44), (2, 2, 1)])
 }
 
 // The file with another value at a place.
 fn damaged(at: usize, value: u8) -> [u8; 104] {
     let mut file = FILE;
-    if at < 104 {
-        file[at] = value;
+    if let Some(byte) = file.get_mut(at) {
+        *byte = value;
     }
     file
 }
 
 // Tries the values of one row, and answers how many there were.
 fn try_values(rt: &impl Abort, owed: &Owed, damage: Damage) -> usize {
+    let Damage(at, first, last, expected) = damage;
     let mut tried: usize = 0;
-    for value in damage.first..=damage.last {
-        let file = damaged(damage.at, value);
+    for value in first..=last {
+        let file = damaged(at, value);
         assert_ne!(rt; file, FILE);
-        assert_eq!(rt; check_file(owed, &file), answer_to(damage.answer, value));
+        assert_eq!(rt; check_file(owed, &file), answer_to(expected, value));
         tried = tried.wrapping_add(1);
     }
     tried
@@ -857,7 +234,7 @@ fn the_whole_file_is_served(rt: HostRuntime) -> Result<(), Fail> {
 fn every_damage_is_answered(rt: HostRuntime) -> Result<(), Fail> {
     let owed = served()?;
     let mut tried: usize = 0;
-    for damage in DAMAGES.iter() {
+    for damage in &DAMAGES {
         tried = tried.wrapping_add(try_values(&rt, &owed, *damage));
     }
     assert_eq!(rt; tried, 104 * 255);

@@ -6,4 +6,6 @@ mod cases;
 #[cfg(test)]
 mod damages;
 #[cfg(test)]
+mod matrices;
+#[cfg(test)]
 mod three_beams;

@@ -1,12 +1,11 @@
 // The plan of three beams: written, checked and read back.
+use super::matrices::owes;
 use checker::{Checked, check as check_file};
-use lines::{Downlink, Uplink};
+use lines::Downlink;
 use owed::Owed;
 use plan_files::{WriteDecline, read_modes, write_and_read, write_modes};
 use schedule::{Join, Mode};
 use std::test::Fail;
-
-const IDLE: Option<Join> = None;
 
 const fn one(j: u16) -> Option<Join> {
     Some(Join {
@@ -17,7 +16,7 @@ const fn one(j: u16) -> Option<Join> {
 
 // One slot with these grants.
 fn slot(first: Option<Join>, second: Option<Join>, third: Option<Join>) -> Mode {
-    let mut row = [IDLE; 16];
+    let mut row = [None; 16];
     row[0] = first;
     row[1] = second;
     row[2] = third;
@@ -28,20 +27,14 @@ fn slot(first: Option<Join>, second: Option<Join>, third: Option<Join>) -> Mode 
 fn plan() -> [Mode; 3] {
     [
         slot(one(1), one(2), one(0)),
-        slot(one(0), one(1), IDLE),
-        slot(one(0), one(2), IDLE),
+        slot(one(0), one(1), None),
+        slot(one(0), one(2), None),
     ]
 }
 
 // The rows 2 1 0, 0 1 2 and 1 0 0.
 fn owed() -> Result<Owed, Fail> {
-    let mut owed = Owed::new(3)?;
-    owed.add(Uplink(0), Downlink(0), 2)?;
-    owed.add(Uplink(0), Downlink(1), 1)?;
-    owed.add(Uplink(1), Downlink(1), 1)?;
-    owed.add(Uplink(1), Downlink(2), 2)?;
-    owed.add(Uplink(2), Downlink(0), 1)?;
-    Ok(owed)
+    owes(3, &[(0, 0, 2), (0, 1, 1), (1, 1, 1), (1, 2, 2), (2, 0, 1)])
 }
 
 #[test]

@@ -20,7 +20,7 @@ module _ (plan : Plan) (room : ℕ) where
   pub copied : (n : ℕ) (ms : List Mode) (r : Result PlanFile FileDecline) → n ≡ plan_lines plan → ms ≡ plan_modes plan → MatchResult r (Done n ms room) (Undone n ms room) → RoundTrip n ms r → MatchResult r (Copied plan room) (Uncopied plan room)
   copied n ms r same_lines same-modes told back =
       let sound : AllSound n ms = subst (AllSound n) (sym same-modes) (subst (λ (k : ℕ). AllSound k (plan_modes plan)) (sym same_lines) (plan_sound plan)) in
-      let again = back (omega (arith, plan.some_line), omega (arith, plan.few_lines)) sound in
+      let again = back (omega (arith, plan.lines.some), omega (arith, plan.lines.few)) sound in
       join r
       (subst (λ (k : ℕ). MatchResult r (Done k (plan_modes plan) room) (Undone k (plan_modes plan) room)) same_lines (subst (λ (xs : List Mode). MatchResult r (Done n xs room) (Undone n xs room)) same-modes told))
       (subst (λ (k : ℕ). MatchResult r (Again k (plan_modes plan)) NotBack) same_lines (subst (λ (xs : List Mode). MatchResult r (Again n xs) NotBack) same-modes again))

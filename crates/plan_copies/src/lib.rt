@@ -10,29 +10,13 @@ ghost use Rattle.plan_copies.specs.Copies.{Copied, Uncopied};
 
 use plan_files::{FileDecline, PlanFile, write_and_read};
 use planning::Plan;
-use schedule::Mode;
 use std::alloc::Global;
 
-// Writes the lines and the modes of a plan, and reads them back.
-fn copy_modes(
-    heap: Global,
-    plan: &Plan,
-    lines: usize,
-    modes: &[Mode],
-    out: &mut [u8],
-) -> Result<PlanFile, FileDecline>
-    requires lines { lines ≡ plan_lines plan.now }
-    requires modes { modes.now ≡ plan_modes plan.now }
-    ensures after { out.new ≡ or_same (write_decline (length (plan_modes plan.now)) (length out.old)) (encoded (plan_lines plan.now) (plan_modes plan.now) ++ drop (52 * length (plan_modes plan.now)) out.old) out.old }
-    ensures copied { MatchResult result (Copied plan.now (length out.old)) (Uncopied plan.now (length out.old)) }
-{
-    write_and_read(heap, lines, modes, out)
-}
-
 // Writes a plan into the front of a buffer, and reads it back: it is the same plan, unless the buffer is too short or memory is wanting.
+#[tactic(auto, using(crate::proofs::Copying::copied))]
 pub fn copy_plan(heap: Global, plan: &Plan, out: &mut [u8]) -> Result<PlanFile, FileDecline>
     ensures after { out.new ≡ or_same (write_decline (length (plan_modes plan.now)) (length out.old)) (encoded (plan_lines plan.now) (plan_modes plan.now) ++ drop (52 * length (plan_modes plan.now)) out.old) out.old }
     ensures copied { MatchResult result (Copied plan.now (length out.old)) (Uncopied plan.now (length out.old)) }
 {
-    copy_modes(heap, plan, plan.lines(), plan.modes(), out)
+    write_and_read(heap, plan.lines(), plan.modes(), out)
 }

@@ -1,4 +1,3 @@
 pub mod Steps
 pub mod Parts
 pub mod RoundTrip
-pub mod Returns

@@ -37,10 +37,6 @@ abbrev pub NotBack : FileDecline → Type 0
 NotBack (Write d) = Unit {0}
 NotBack (Read d) = Unread d
 
--- the records of modes that keep the rules are read as those modes
-abbrev pub SameBack : ℕ → List Mode → Result PlanFile ReadDecline → Type 0
-SameBack n ms r = Lines n → AllSound n ms → MatchResult r (Again n ms) Unread
-
 -- modes that keep the rules, written and read, come back as they were
 abbrev pub RoundTrip : ℕ → List Mode → Result PlanFile FileDecline → Type 0
 RoundTrip n ms r = Lines n → AllSound n ms → MatchResult r (Again n ms) NotBack

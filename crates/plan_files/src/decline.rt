@@ -1,8 +1,9 @@
 // Why modes are not written, or not read.
 ghost use Rattle.std.specs.Prelude.{◌≡◌};
+ghost use Rattle.plan_files.specs.declared.decline.FileDecline.TheVariants.{Write, Read};
 ghost use Rattle.plan_files.specs.Declines.{write_number, write_place, read_number, read_place, file_number, file_place};
 
-use lines::Place;
+use lines::{Decline, Place};
 
 #[derive(Clone, Copy, PartialEq, Eq, Debug)]
 pub enum WriteDecline {
@@ -27,28 +28,30 @@ pub enum FileDecline {
     Read(ReadDecline),
 }
 
-impl WriteDecline {
-    pub fn number(&self) -> u8
-        ensures { result ≡ write_number self.now }
-    {
+impl Decline for WriteDecline {
+    ghost number = { write_number };
+
+    ghost place = { write_place };
+
+    fn number(&self) -> u16 {
         match *self {
             WriteDecline::ShortBuffer => 16,
         }
     }
 
-    pub fn place(&self) -> Place
-        ensures { result ≡ write_place self.now }
-    {
+    fn place(&self) -> Place {
         match *self {
             WriteDecline::ShortBuffer => Place::Nowhere,
         }
     }
 }
 
-impl ReadDecline {
-    pub fn number(&self) -> u8
-        ensures { result ≡ read_number self.now }
-    {
+impl Decline for ReadDecline {
+    ghost number = { read_number };
+
+    ghost place = { read_place };
+
+    fn number(&self) -> u16 {
         match *self {
             ReadDecline::Size => 15,
             ReadDecline::Improper(_) => 17,
@@ -56,9 +59,7 @@ impl ReadDecline {
         }
     }
 
-    pub fn place(&self) -> Place
-        ensures { result ≡ read_place self.now }
-    {
+    fn place(&self) -> Place {
         match *self {
             ReadDecline::Size => Place::Nowhere,
             ReadDecline::Improper(record) => Place::AtRecord(record),
@@ -67,22 +68,38 @@ impl ReadDecline {
     }
 }
 
-impl FileDecline {
-    pub fn number(&self) -> u8
-        ensures { result ≡ file_number self.now }
-    {
+impl Decline for FileDecline {
+    ghost number = { file_number };
+
+    ghost place = { file_place };
+
+    fn number(&self) -> u16 {
         match *self {
             FileDecline::Write(decline) => decline.number(),
             FileDecline::Read(decline) => decline.number(),
         }
     }
 
-    pub fn place(&self) -> Place
-        ensures { result ≡ file_place self.now }
-    {
+    fn place(&self) -> Place {
         match *self {
             FileDecline::Write(decline) => decline.place(),
             FileDecline::Read(decline) => decline.place(),
         }
+    }
+}
+
+impl From<WriteDecline> for FileDecline {
+    ghost from_gives = { λ d r. r ≡ Write d };
+
+    fn from(why: WriteDecline) -> FileDecline {
+        FileDecline::Write(why)
+    }
+}
+
+impl From<ReadDecline> for FileDecline {
+    ghost from_gives = { λ d r. r ≡ Read d };
+
+    fn from(why: ReadDecline) -> FileDecline {
+        FileDecline::Read(why)
     }
 }

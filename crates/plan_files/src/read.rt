@@ -6,14 +6,12 @@ ghost use Rattle.records.specs.Reader.{bytes_of};
 ghost use Rattle.plan_files.specs.Reading.{lines_said, Fits, AllFit, Tells, Untold};
 
 use super::decline::ReadDecline;
-use records::{Record, read_record, record_count};
+use lines::Lines;
+use records::{Record, read_record, read_records, record_count};
 use schedule::Mode;
 use std::alloc::Global;
 
-// The most lines that there may be.
-const MOST_LINES: usize = 16;
-
-// What a plan file says: a number of lines, 0 if it has no record, and its modes.
+// What a plan file says: a number of lines, 0 if it has no record, and its modes. A number in that case too, since callers read it as one.
 #[derive(Drop)]
 pub struct PlanFile {
     pub lines: usize,
@@ -25,20 +23,15 @@ fn first_lines(file: &[u8]) -> usize
     requires { Whole file.now }
     ensures { result ≡ lines_said file.now }
 {
-    match read_record(file, 0) {
-        Some(record) => record.lines(),
-        None => 0,
-    }
+    read_record(file, 0).map_or(0, |record| record.lines())
 }
 
 // The mode that a record says, if it fits so many lines.
 fn fitting_mode(source: &Record<'_>, lines: usize) -> Option<Mode>
     ensures { MatchOption result (Fits lines (bytes_of source.now) → ⊥) (λ m. Fits lines (bytes_of source.now) × (m ≡ mode_of (bytes_of source.now))) }
 {
-    if lines == 0 || lines > MOST_LINES {
-        return None;
-    }
-    source.checked_mode(lines)
+    let lines = Lines::new(lines)?;
+    source.checked_mode(lines.count())
 }
 
 // The modes of all records.
@@ -48,16 +41,9 @@ fn read_all(heap: Global, lines: usize, file: &[u8]) -> Result<Vec<Mode>, ReadDe
     ensures { MatchResult result (λ v. AllFit (lines_said file.now) (count file.now) file.now × (v.items ≡ modes_in file.now)) (Untold file.now) }
 {
     let mut modes = Vec::new(heap);
-    let mut k: usize = 0;
-    while let Some(record) = read_record(file, k) {
-        let Some(mode) = fitting_mode(&record, lines) else {
-            return Err(ReadDecline::Improper(k));
-        };
-        match modes.push(mode) {
-            Ok(()) => (),
-            Err(_) => return Err(ReadDecline::NoMemory),
-        }
-        k += 1;
+    for record in read_records(file) {
+        let mode = fitting_mode(&record, lines).ok_or(ReadDecline::Improper(record.place()))?;
+        modes.push(mode).map_err(|_| ReadDecline::NoMemory)?;
     }
     Ok(modes)
 }
@@ -66,12 +52,8 @@ fn read_all(heap: Global, lines: usize, file: &[u8]) -> Result<Vec<Mode>, ReadDe
 pub fn read_modes(heap: Global, file: &[u8]) -> Result<PlanFile, ReadDecline>
     ensures { MatchResult result (Tells file.now) (Untold file.now) }
 {
-    if record_count(file).is_none() {
-        return Err(ReadDecline::Size);
-    }
+    record_count(file).ok_or(ReadDecline::Size)?;
     let lines = first_lines(file);
-    match read_all(heap, lines, file) {
-        Ok(modes) => Ok(PlanFile { lines, modes }),
-        Err(decline) => Err(decline),
-    }
+    let modes = read_all(heap, lines, file)?;
+    Ok(PlanFile { lines, modes })
 }

@@ -1,11 +1,11 @@
 // Modes written as records of 52 bytes.
-ghost use Rattle.std.specs.Prelude.{◌≡◌, ◌*◌, ◌≤◌, ◌++◌, length, take, drop, IfOk, OnOk};
+ghost use Rattle.std.specs.Prelude.{◌≡◌, ◌*◌, ◌≤◌, ◌++◌, map, length, take, drop, IfOk, OnOk};
 ghost use Rattle.lines.specs.Verdicts.{told, or_same};
 ghost use Rattle.plan_files.specs.Declines.{write_decline};
 ghost use Rattle.plan_files.specs.Encoding.{grant_bytes, encode, encoded, Full, ComesBack, ServesOn};
 
 use super::decline::WriteDecline;
-use records::{ENTRIES, NO_GRANT, RECORD_SIZE, UNUSED};
+use records::{NO_GRANT, RECORD_SIZE, UNUSED};
 use schedule::{Join, Mode};
 
 // The three bytes of an entry.
@@ -13,15 +13,20 @@ fn entry_bytes(grant: Option<Join>) -> [u8; 3]
     ensures { result ≡ grant_bytes grant }
 {
     match grant {
-        None => [NO_GRANT, 0, 0],
-        Some(join) => {
-            if join.down.0 >= UNUSED {
-                return [NO_GRANT, 0, 0];
-            }
+        Some(join) if join.down.0 < UNUSED => {
             let [high, low] = join.units.to_be_bytes();
             [join.down.0 as u8, high, low]
         }
+        _ => [NO_GRANT, 0, 0],
     }
+}
+
+// The entries of sixteen uplinks.
+fn entries_of(row: &[Option<Join>; 16]) -> [[u8; 3]; 16]
+    ensures written { result ≡ map grant_bytes row.now }
+    ensures sixteen { length row.now ≡ 16 }
+{
+    row.map(entry_bytes)
 }
 
 // The record of a mode.
@@ -29,20 +34,14 @@ fn encode_mode(lines: usize, mode: &Mode) -> [u8; 52]
     ensures bytes { result ≡ encode lines mode.now }
     ensures full { Full mode.now }
 {
-    let mut bytes = [0u8; 52];
+    let mut bytes = [0; 52];
     let [high, low] = mode.dwell.to_be_bytes();
-    bytes[0] = high;
-    bytes[1] = low;
-    bytes[2] = lines.min(255) as u8;
-    for i in 0..ENTRIES {
-        let at = 4 + 3 * i;
-        let part = entry_bytes(mode.row[i]);
-        bytes[at..at + 3].copy_from_slice(&part);
-    }
+    bytes[0..4].copy_from_slice(&[high, low, u8::try_from(lines).unwrap_or(u8::MAX), 0]);
+    bytes[4..52].copy_from_slice(entries_of(&mode.row).as_flattened());
     bytes
 }
 
-// The records of all modes, one after the other.
+// The records of all modes, one after the other. Lines and modes are apart, since a session writes only the modes that are left of its plan.
 fn write_all(lines: usize, modes: &[Mode], out: &mut [u8])
     requires { 52 * length modes.now ≤ length out.old }
     ensures after { out.new ≡ encoded lines modes.now ++ drop (52 * length modes.now) out.old }
@@ -50,9 +49,10 @@ fn write_all(lines: usize, modes: &[Mode], out: &mut [u8])
     ensures back { ComesBack lines modes.now }
     ensures serves { ServesOn lines modes.now }
 {
-    for i in 0..modes.len() {
-        let bytes = encode_mode(lines, &modes[i]);
-        out[RECORD_SIZE * i..RECORD_SIZE * i + RECORD_SIZE].copy_from_slice(&bytes);
+    // By places, and not by `chunks_exact_mut`, whose contract does not tell what the buffer holds afterwards.
+    for (i, mode) in modes.iter().enumerate() {
+        let at = RECORD_SIZE * i;
+        out[at..at + RECORD_SIZE].copy_from_slice(&encode_mode(lines, mode));
     }
 }
 

@@ -1,3 +1,5 @@
 pub mod Rows
 pub mod Files
 pub mod Reservations
+pub mod Calls
+pub mod Chunks

@@ -1,8 +1,9 @@
 -- Reservations of 6 bytes. Assumes nothing.
-use Rattle.std.specs.Prelude.{ℕ, ◌+◌, ◌*◌, ◌/◌, List, map, length, slice_index}
+use Rattle.std.specs.Prelude.{ℕ, ◌+◌, ◌*◌, ◌/◌, List, map, length, drop, slice_index}
 use Rattle.std.specs.List.{range_with_len}
 use Rattle.lines.specs.Matrix.{uplink, downlink}
 use Rattle.records.specs.declared.reservation.Reservation.{Reservation}
+use Rattle.records.specs.declared.reservation.ReservationIter.{ReservationIter}
 use Rattle.records.specs.Layout.{word}
 
 -- how many whole reservations the bytes hold
@@ -21,3 +22,11 @@ reservation_at bytes k = record {
 -- all whole reservations
 unfoldable pub reservations : List ℕ → List Reservation
 reservations bytes = map (reservation_at bytes) (range_with_len 0 (how_many bytes))
+
+-- all of them, each with its number
+unfoldable pub numbered : List ℕ → List (ℕ × Reservation)
+numbered bytes = map (λ k. (k, reservation_at bytes k)) (range_with_len 0 (how_many bytes))
+
+-- those that an iterator has still to give
+abbrev pub left : ReservationIter → List (ℕ × Reservation)
+left s = drop s.next (numbered s.bytes.now)

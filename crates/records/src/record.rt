@@ -2,10 +2,12 @@
 ghost use Rattle.std.specs.Prelude.{◌≡◌, ◌%◌, ◌<◌, length, if◌then◌else◌, Some, None, Decides, MatchOption, nat_eq, nat_lt};
 ghost use Rattle.records.specs.Files.{count};
 ghost use Rattle.records.specs.Layout.{dwell_in, lines_in, entry_at, grant_in, row_in, mode_of, Neat, AllNeat, Layout, Proper};
-ghost use Rattle.records.specs.Reader.{bytes_of, place_of, There, Shows};
+ghost use Rattle.records.specs.Reader.{bytes_of, place_of, There, Shows, shown, parts, left};
+ghost use Rattle.std.specs.Iterator.{YieldsFirstBy, item_count};
 
 use lines::{Downlink, Uplink};
 use schedule::{Join, Mode, keeps_rules};
+use std::array;
 
 // How many bytes a record has.
 pub const RECORD_SIZE: usize = 52;
@@ -13,7 +15,7 @@ pub const RECORD_SIZE: usize = 52;
 // How many entries a record has.
 pub const ENTRIES: usize = 16;
 
-// The least number that names no downlink: 254 is the test load.
+// The least number that names no downlink: 254 is the test load. The layout of a file knows numbers only.
 pub const UNUSED: u16 = 254;
 
 // What stands for a downlink where there is no grant.
@@ -26,7 +28,7 @@ pub struct Record<'a> {
     place: usize,
 }
 
-// What a record says of an uplink.
+// What a record says of an uplink. It is no grant yet, since a test load and a bad idle entry name no downlink and may still bear units.
 #[derive(Clone, Copy, PartialEq, Eq, Debug)]
 pub struct Entry {
     pub down: Downlink,
@@ -38,14 +40,10 @@ impl Entry {
     pub fn grant(&self) -> Option<Join>
         ensures { result ≡ grant_in self.now }
     {
-        if self.down.0 < UNUSED {
-            Some(Join {
-                down: self.down,
-                units: self.units,
-            })
-        } else {
-            None
-        }
+        (self.down.0 < UNUSED).then_some(Join {
+            down: self.down,
+            units: self.units,
+        })
     }
 }
 
@@ -53,25 +51,45 @@ impl Entry {
 pub fn record_count(file: &[u8]) -> Option<usize>
     ensures { result ≡ (if nat_eq (length file.now % 52) 0 then Some (count file.now) else None) }
 {
-    if file.len() % RECORD_SIZE == 0 {
-        Some(file.len() / RECORD_SIZE)
-    } else {
-        None
-    }
+    (file.len() % RECORD_SIZE == 0).then_some(file.len() / RECORD_SIZE)
 }
 
 // Record n of a file, or none if it is not wholly there.
+#[tactic(auto, using(crate::proofs::Chunks::chunk_at))]
 pub fn read_record(file: &[u8], n: usize) -> Option<Record<'_>>
     ensures { MatchOption result (There file.now n → ⊥) (Shows file.now n) }
 {
-    if n >= file.len() / RECORD_SIZE {
-        return None;
+    let (records, _) = file.as_chunks::<RECORD_SIZE>();
+    let bytes = records.get(n)?;
+    Some(Record { bytes, place: n })
+}
+
+// The whole records of a file, in their order. A type of its own, since what answers an `impl Iterator` gets no proof.
+#[derive(Drop)]
+pub struct RecordIter<'a> {
+    file: &'a [u8],
+    next: usize,
+}
+
+impl<'a> Iterator for RecordIter<'a> {
+    type Item = Record<'a>;
+
+    ghost next_gives = { YieldsFirstBy shown left };
+
+    ghost remaining = { item_count left };
+
+    fn next(&mut self) -> Option<Record<'a>> {
+        let record = read_record(self.file, self.next)?;
+        self.next += 1;
+        Some(record)
     }
-    let at = RECORD_SIZE * n;
-    match <&[u8; 52]>::try_from(&file[at..at + RECORD_SIZE]) {
-        Ok(bytes) => Some(Record { bytes, place: n }),
-        Err(_) => None,
-    }
+}
+
+// The whole records of a file.
+pub fn read_records(file: &[u8]) -> RecordIter<'_>
+    ensures { left result ≡ parts file.now }
+{
+    RecordIter { file, next: 0 }
 }
 
 impl<'a> Record<'a> {
@@ -86,8 +104,7 @@ impl<'a> Record<'a> {
     pub fn bytes(&self) -> &'a [u8; 52]
         ensures { result.now ≡ bytes_of self.now }
     {
-        let Record { bytes, place: _ } = *self;
-        bytes
+        self.bytes
     }
 
     pub fn dwell(&self) -> u16
@@ -108,11 +125,7 @@ impl<'a> Record<'a> {
         ensures { result ≡ (if nat_lt up.0 16 then Some (entry_at (bytes_of self.now) up.0) else None) }
     {
         let i = usize::from(up.0);
-        if i < ENTRIES {
-            Some(entry_in(self.bytes, i))
-        } else {
-            None
-        }
+        (i < ENTRIES).then(|| entry_in(self.bytes, i))
     }
 
     // The mode that it says, whether or not it keeps the rules.
@@ -130,11 +143,7 @@ impl<'a> Record<'a> {
         ensures { MatchOption result (Proper lines (bytes_of self.now) → ⊥) (λ m. Proper lines (bytes_of self.now) × (m ≡ mode_of (bytes_of self.now))) }
     {
         let mode = self.mode();
-        if keeps_layout(lines, self.bytes) && keeps_rules(lines, &mode) {
-            Some(mode)
-        } else {
-            None
-        }
+        (keeps_layout(lines, self.bytes) && keeps_rules(lines, &mode)).then_some(mode)
     }
 }
 
@@ -154,11 +163,7 @@ fn entry_in(bytes: &[u8; 52], i: usize) -> Entry
 fn grants_in(bytes: &[u8; 52]) -> [Option<Join>; 16]
     ensures { result ≡ row_in bytes.now }
 {
-    let mut row = [None; 16];
-    for i in 0..ENTRIES {
-        row[i] = entry_in(bytes, i).grant();
-    }
-    row
+    array::from_fn(|i| entry_in(bytes, i).grant())
 }
 
 // Whether entry i keeps the layout, of so many lines.
@@ -173,12 +178,7 @@ fn is_neat(lines: usize, i: usize, entry: Entry) -> bool
 fn are_neat(lines: usize, bytes: &[u8; 52]) -> bool
     ensures { Decides result (AllNeat lines bytes.now) }
 {
-    for i in 0..ENTRIES {
-        if !is_neat(lines, i, entry_in(bytes, i)) {
-            return false;
-        }
-    }
-    true
+    (0..ENTRIES).all(|i| is_neat(lines, i, entry_in(bytes, i)))
 }
 
 // Whether a record keeps the layout, of so many lines.

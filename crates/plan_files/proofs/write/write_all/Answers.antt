@@ -11,14 +11,14 @@ use Rattle.plan_files.proofs.write.write_all.Goals as goal
 pub loop-i-preserved : goal.loop-i-preserved
 loop-i-preserved c =
     let less : c.loop-i.i < length c.args.modes.now = c.loop-i-test.true in
-    let is = c.copy_from_slice.ensures.after ∙ c.encode_mode-bytes.ensures.bytes in
+    let is = c.copy_from_slice.ensures.after ∙ c.encode_mode.ensures.bytes in
     let size : length c.copy_from_slice.new.self ≡ 52 = search (rules, places) in
     let fits : 52 * c.loop-i.i ≤ length c.loop-i.out = omega arith in
     let ends : 52 * (c.loop-i.i + 1) ≡ 52 * c.loop-i.i + length c.copy_from_slice.new.self = omega arith in (
       one_more (encode c.args.lines) [] c.args.modes.now _ c.loop-i.i _ _ _ c.loop-i.out c.copy_from_slice.new.self less c.loop-i.invariant.0 is fits ends,
       drop-put_mid (52 * c.loop-i.i) (52 * c.loop-i.i + 52 - 52 * c.loop-i.i) c.loop-i.out c.copy_from_slice.new.self (52 * (c.loop-i.i + 1)) (omega arith) fits (omega arith)
           ∙ later c.loop-i.out c.args.out.now (52 * c.loop-i.i) 52 (52 * (c.loop-i.i + 1)) (omega arith) c.loop-i.invariant.1,
-      All-more Full c.args.modes.now c.loop-i.i _ less c.loop-i.invariant.2 c.encode_mode-bytes.ensures.full,
+      All-more Full c.args.modes.now c.loop-i.i _ less c.loop-i.invariant.2 c.encode_mode.ensures.full,
     )
 
 pub returns : goal.returns
