@@ -1,20 +1,16 @@
 -- Plans that are made and dropped, questions, and modes that are written, as a session shows them. Assumes nothing.
 use Rattle.std.proofs.Common.{◌≡◌, ℕ, ◌*◌, ◌<◌, ◌≤◌, cond, eqb, ltb, List, [], ◌++◌, length, drop, Some, None, Option, sym, refl, ap, ◌∙◌}
 use Rattle.std.proofs.lemmas.Bool.{eq-eqb, ne_eqb, lt-ltb, le-ltb}
-use Rattle.lines.specs.declared.Uplink.{Uplink}
-use Rattle.lines.specs.declared.Downlink.{Downlink}
 use Rattle.lines.specs.Matrix.{busiest}
 use Rattle.schedule.specs.declared.Mode.{Mode}
 use Rattle.schedule.specs.Modes.{span}
-use Rattle.owed.specs.declared.decline.OwedDecline.{OwedDecline}
-use Rattle.owed.specs.Calls.{line_decline}
 use Rattle.plan_files.specs.Encoding.{encoded}
-use Rattle.law.specs.declared.call.Call.TheVariants.{Plan, Drop, Owed, Busiest, ModesLeft, LengthLeft, Write}
-use Rattle.law.specs.declared.answer.Answer.TheVariants.{Accepted, Planned, Units, Wrote, Declined}
+use Rattle.law.specs.declared.call.Call.TheVariants.{Plan, Write}
+use Rattle.law.specs.declared.answer.Answer.TheVariants.{Planned, Wrote, Declined}
 use Rattle.law.specs.declared.decline.SessionDecline.{SessionDecline}
-use Rattle.law.specs.declared.decline.SessionDecline.TheVariants.{NothingOwed, Booking, ShortBuffer, NoMemory}
+use Rattle.law.specs.declared.decline.SessionDecline.TheVariants.{NothingOwed, ShortBuffer, NoMemory}
 use Rattle.law.specs.States.{State, Plan as Standing, idle, planned, modes_left, with_plan}
-use Rattle.law.specs.Refusals.{mode_size, booking, refusal}
+use Rattle.law.specs.Refusals.{mode_size, refusal}
 use Rattle.law.specs.Calls.{Maker, Does, does, wants_memory}
 use Rattle.law.proofs.Said.{past_6, past_9, declined_so}
 
@@ -32,28 +28,9 @@ module _ {M : Maker} (before after : List ℕ) (s t : State) (buffer : after ≡
   pub no_memory_so : s.plan ≡ idle → (busiest s.lines s.owed ≡ 0 → ⊥) → t ≡ s → Does M Plan (Declined NoMemory) [] before after s t
   no_memory_so free some same = wants_memory (plan_free s free some) refl refl (record { runs = refl; buffer = buffer; state = same })
 
-  pub planned_so : s.plan ≡ idle → (busiest s.lines s.owed ≡ 0 → ⊥) → (ms : List Mode) → M s.lines s.owed ms → (k l : ℕ) → k ≡ length ms → l ≡ span ms → t ≡ with_plan (planned 0 ms) s → Does M Plan (Planned k l) [] before after s t
+  pub planned_so : s.plan ≡ idle → (busiest s.lines s.owed ≡ 0 → ⊥) → (ms : List Mode) → M s.lines s.owed ms → (k l : ℕ) → k ≡ length ms → l ≡ span ms → t ≡ with_plan (planned 0 ms) s → Does M Plan (Planned (record { modes = k; length = l })) [] before after s t
   planned_so free some ms made k l count long e =
-      does (plan_free s free some) (record { modes = ms; made = made; answer = ap (λ x. Planned x l) count ∙ ap (Planned (length ms)) long; runs = refl; buffer = buffer; state = e })
-
-  pub dropped_so : (k : ℕ) (ms : List Mode) → s.plan ≡ planned k ms → t ≡ with_plan idle s → Does M Drop Accepted [] before after s t
-  dropped_so k ms stood e = does (past_9 s.plan None stood) (record { answer = refl; runs = refl; buffer = buffer; state = e })
-
-  -- the questions, of which only the first can be declined
-  pub owed_declined_so : (i : Uplink) (j : Downlink) (e : OwedDecline) → line_decline s.lines i j ≡ Some e → t ≡ s → Does M (Owed i j) (Declined (Booking e)) [] before after s t
-  owed_declined_so i j e h same = declined_so (Owed i j) (ap booking h) buffer same
-
-  pub owed_so : (i : Uplink) (j : Downlink) (u : ℕ) → line_decline s.lines i j ≡ None → u ≡ s.owed i.0 j.0 → t ≡ s → Does M (Owed i j) (Units u) [] before after s t
-  owed_so i j u h e same = does (ap booking h) (record { answer = ap Units e; still = record { runs = refl; buffer = buffer; state = same } })
-
-  pub busiest_so : (u : ℕ) → u ≡ busiest s.lines s.owed → t ≡ s → Does M Busiest (Units u) [] before after s t
-  busiest_so u e same = does refl (record { answer = ap Units e; still = record { runs = refl; buffer = buffer; state = same } })
-
-  pub modes_left_so : (u : ℕ) → u ≡ length (modes_left s.plan) → t ≡ s → Does M ModesLeft (Units u) [] before after s t
-  modes_left_so u e same = does refl (record { answer = ap Units e; still = record { runs = refl; buffer = buffer; state = same } })
-
-  pub length_left_so : (u : ℕ) → u ≡ span (modes_left s.plan) → t ≡ s → Does M LengthLeft (Units u) [] before after s t
-  length_left_so u e same = does refl (record { answer = ap Units e; still = record { runs = refl; buffer = buffer; state = same } })
+      does (plan_free s free some) (record { modes = ms; made = made; answer = ap (λ (x : ℕ). Planned (record { modes = x; length = l })) count ∙ ap (λ (x : ℕ). Planned (record { modes = length ms; length = x })) long; runs = refl; buffer = buffer; state = e })
 
 -- the modes left go into the buffer
 by_size : (size : ℕ) (s : State) (k : ℕ) (ms : List Mode) → s.plan ≡ planned k ms → refusal Write size s ≡ cond (ltb size (mode_size * length ms)) (Some ShortBuffer) None

@@ -49,9 +49,9 @@ replanned s t u e switch owed = at_end s t u e (still s u _ _ switch (λ a b. ap
 -- no answer accepts anything of a call that brings nothing
 none_accepted : (r : Answer) (a b : ℕ) → if_accepted r nothing a b ≡ 0
 none_accepted Accepted a b = refl
-none_accepted (Planned k l) a b = refl
-none_accepted (Stepped k d x) a b = refl
-none_accepted (Ran k c) a b = refl
+none_accepted (Planned x) a b = refl
+none_accepted (Stepped x) a b = refl
+none_accepted (Ran x) a b = refl
 none_accepted (Units u) a b = refl
 none_accepted (Wrote k) a b = refl
 none_accepted (Declined d) a b = refl

@@ -1,6 +1,5 @@
 -- Batches, as a session shows them: records posted one after the other. Assumes nothing.
-use Rattle.std.proofs.Common.{◌≡◌, ℕ, ◌+◌, ◌%◌, ◌<◌, ◌≤◌, cond, List, [], ◌∷◌, length, drop, Some, None, Option, sym, refl, ap, ◌∙◌, subst, arith, Bor}
-use Rattle.std.proofs.lemmas.Bool.{eq-eqb, ne_eqb}
+use Rattle.std.proofs.Common.{◌≡◌, ℕ, ◌+◌, ◌<◌, ◌≤◌, List, [], ◌∷◌, drop, Some, None, Option, sym, ap, ◌∙◌, subst, arith, Bor}
 use Rattle.std.proofs.lemmas.List.{drop_all}
 use Rattle.lines.specs.Matrix.{Matrix}
 use Rattle.lines.specs.Verdicts.{or_else}
@@ -11,14 +10,11 @@ use Rattle.records.specs.Reservations.{how_many, reservation_at, reservations}
 use Rattle.records.proofs.Reservations.{length_reservations, drop_reservations}
 use Rattle.law.specs.declared.call.Call.TheVariants.{Batch}
 use Rattle.law.specs.declared.answer.Answer.{Answer}
-use Rattle.law.specs.declared.answer.Answer.TheVariants.{Accepted, Declined}
-use Rattle.law.specs.declared.decline.SessionDecline.{SessionDecline}
-use Rattle.law.specs.declared.decline.SessionDecline.TheVariants.{PartRecord, Record}
-use Rattle.law.specs.States.{State, idle}
+use Rattle.law.specs.declared.decline.SessionDecline.TheVariants.{Record}
+use Rattle.law.specs.States.{State}
 use Rattle.law.specs.Runs.{ModeRun}
-use Rattle.law.specs.Refusals.{unless_planned, of_record, records_decline, batch_decline, reservation_size}
+use Rattle.law.specs.Refusals.{unless_planned, of_record, records_decline, batch_decline}
 use Rattle.law.specs.Calls.{Maker, reserved, Books, Does, does, does_not, wants_memory}
-use Rattle.law.proofs.Said.{past_6, declined_so}
 
 same_units : (f g : Matrix) → ((a b : ℕ) → f a b ≡ g a b) → f ≡ g
 same_units f g h i a b = h a b i
@@ -27,9 +23,6 @@ same_units f g h i a b = h a b i
 pub record Batched (n : ℕ) (bytes : List ℕ) (first here : Matrix) (k : ℕ) : Type 0 where
   pub sums : (a b : ℕ) → here a b + reserved (drop k (reservations bytes)) a b ≡ first a b + reserved (reservations bytes) a b
   pub verdict : records_decline n 0 (reservations bytes) first ≡ records_decline n k (drop k (reservations bytes)) here
-
-pub batched_none : (n : ℕ) (bytes : List ℕ) (first : Matrix) → Batched n bytes first first 0
-batched_none n bytes first = record { sums = λ a b. refl; verdict = refl }
 
 module _ (n : ℕ) (bytes : List ℕ) (first here : Matrix) (k : ℕ) (w : Batched n bytes first here k) (inside : k < how_many bytes) where
   abbrev x : Reservation
@@ -68,26 +61,6 @@ module _ (n : ℕ) (bytes : List ℕ) (first here : Matrix) (k : ℕ) (w : Batch
 
   pub batched_sums : (a b : ℕ) → here a b ≡ first a b + reserved (reservations bytes) a b
   batched_sums a b = omega (arith, w.sums a b, ap (λ (l : List Reservation). reserved l a b) over)
-
--- whole records are declined by the first that is
-by_records : (bytes : List ℕ) (s : State) → s.plan ≡ idle → length bytes % reservation_size ≡ 0 → unless_planned s.plan (batch_decline s.lines s.owed bytes) ≡ records_decline s.lines 0 (reservations bytes) s.owed
-by_records bytes s free whole = past_6 s.plan _ free ∙ ap (λ x. cond x (records_decline s.lines 0 (reservations bytes) s.owed) (Some PartRecord)) (eq-eqb (length bytes % reservation_size) 0 whole)
-
--- a batch on a session without a plan
-module _ {M : Maker} (bytes : Bor (List ℕ)) (before after : List ℕ) (s t : State) (free : s.plan ≡ idle) (buffer : after ≡ before) where
-  pub batch_part_so : (length bytes.now % reservation_size ≡ 0 → ⊥) → t ≡ s → Does M (Batch bytes) (Declined PartRecord) [] before after s t
-  batch_part_so ne same =
-      declined_so (Batch bytes)
-      (past_6 s.plan _ free ∙ ap (λ x. cond x (records_decline s.lines 0 (reservations bytes.now) s.owed) (Some PartRecord)) (ne_eqb (length bytes.now % reservation_size) 0 ne))
-      buffer same
-
-  module _ (whole : length bytes.now % reservation_size ≡ 0) where
-    pub batch_declined_so : (d : SessionDecline) → records_decline s.lines 0 (reservations bytes.now) s.owed ≡ Some d → t ≡ s → Does M (Batch bytes) (Declined d) [] before after s t
-    batch_declined_so d h same = declined_so (Batch bytes) (by_records bytes.now s free whole ∙ h) buffer same
-
-    pub batched_so : records_decline s.lines 0 (reservations bytes.now) s.owed ≡ None → t.lines ≡ s.lines → ((a b : ℕ) → t.owed a b ≡ s.owed a b + reserved (reservations bytes.now) a b) → t.plan ≡ s.plan → t.switch ≡ s.switch → Does M (Batch bytes) Accepted [] before after s t
-    batched_so h lines owed plan switch =
-        does (by_records bytes.now s free whole ∙ h) (record { answer = refl; runs = refl; buffer = buffer; lines = lines; owed = λ a b. omega (arith, owed a b); plan = plan; switch = switch })
 
 -- what a batch does depends on its bytes alone
 pub same_bytes : {M : Maker} (x y : Bor (List ℕ)) {r : Answer} {rs : List ModeRun} {before after : List ℕ} {s t : State} → x.now ≡ y.now → Does M (Batch x) r rs before after s t → Does M (Batch y) r rs before after s t

@@ -3,9 +3,11 @@ use Rattle.std.proofs.Common.{◌≡◌, ℕ, ◌+◌, ◌<◌, ◌≤◌, true,
 use Rattle.std.proofs.lemmas.Bool.{ne_eqb, eq-eqb}
 use Rattle.std.proofs.lemmas.Bool.Decides.{nat_tests}
 use Rattle.law.specs.declared.call.Call.TheVariants.{Step, Run}
-use Rattle.law.specs.declared.answer.Cause.{Cause}
-use Rattle.law.specs.declared.answer.Cause.TheVariants.{End, Short, Stop, Budget}
-use Rattle.law.specs.declared.answer.Shortfall.{Shortfall}
+use Rattle.runs.specs.declared.Cause.{Cause}
+use Rattle.runs.specs.declared.Cause.TheVariants.{End, Short, Stop, Budget}
+use Rattle.runs.specs.declared.Shortfall.{Shortfall}
+use Rattle.law.specs.declared.answer.Step.{Step as OneStep}
+use Rattle.law.specs.declared.answer.Answer.{Answer}
 use Rattle.law.specs.declared.answer.Answer.TheVariants.{Stepped, Ran, Declined}
 use Rattle.law.specs.declared.decline.SessionDecline.{SessionDecline}
 use Rattle.law.specs.declared.decline.SessionDecline.TheVariants.{NoBudget}
@@ -24,10 +26,21 @@ pub record StepTo (t u : State) (x : Option Shortfall) : Type 0 where
   pub end : u ≡ run.after
   pub told : x ≡ shortfall run.outcomes
 
-pub step_to : {M : Maker} {place dwell : ℕ} {x : Option Shortfall} {rs : List ModeRun} {before after : List ℕ} {t u : State} → Does M Step (Stepped place dwell x) rs before after t u → StepTo t u x
-step_to (does _ h) = record { run = h.run; advanced = h.advanced; end = h.state; told = let e = h.answer in cc }
+-- what an answer tells of units that fell short
+abbrev told_short : Answer → Option Shortfall
+told_short (Stepped x) = x.short
+told_short _ = None
+
+pub step_to : {M : Maker} {x : OneStep} {rs : List ModeRun} {before after : List ℕ} {t u : State} → Does M Step (Stepped x) rs before after t u → StepTo t u x.short
+step_to (does _ h) = record { run = h.run; advanced = h.advanced; end = h.state; told = ap told_short h.answer }
 step_to (does_not d _ e _) = let z : ◌≡◌ {A = ℕ} 0 1 = cc in absurd (omega arith)
 step_to (wants_memory _ _ e _) = let z : ◌≡◌ {A = ℕ} 0 1 = cc in absurd (omega arith)
+
+-- a step that was declined
+pub step_not : {M : Maker} {d : SessionDecline} {rs : List ModeRun} {before after : List ℕ} {t u : State} → Does M Step (Declined d) rs before after t u → (next_decline t.plan t.switch ≡ Some d) × (u ≡ t)
+step_not (does _ h) = let e = h.answer in let z : ◌≡◌ {A = ℕ} 0 1 = cc in absurd (omega arith)
+step_not {d = d} (does_not e f a h) = let same : d ≡ e = cc in (f ∙ ap Some (sym same), h.state)
+step_not (wants_memory _ p _ _) = let z : ◌≡◌ {A = ℕ} 0 1 = cc in absurd (omega arith)
 
 -- so many modes have been run from s to t, none fell short, and the plan goes on
 pub record Going (s t : State) (count : ℕ) : Type 0 where
@@ -85,7 +98,7 @@ chain_free s (r ∷ rs) h k = next_free s r h.0
 
 -- modes that were run make a call
 module _ {M : Maker} (b count : ℕ) (cause : Cause) (rs : List ModeRun) (before after : List ℕ) (s t : State) (buffer : after ≡ before) where
-  pub ran_so : Chain s rs → t ≡ last s rs → count ≡ length rs → 1 ≤ count → count ≤ b → LastShort rs → cause ≡ why b rs t → (cause ≡ Stop → (d : SessionDecline) × (next_decline t.plan t.switch ≡ Some d)) → Does M (Run b) (Ran count cause) rs before after s t
+  pub ran_so : Chain s rs → t ≡ last s rs → count ≡ length rs → 1 ≤ count → count ≤ b → LastShort rs → cause ≡ why b rs t → (cause ≡ Stop → (d : SessionDecline) × (next_decline t.plan t.switch ≡ Some d)) → Does M (Run b) (Ran (record { count = count; cause = cause })) rs before after s t
   ran_so chain end many some few one_short told stopped =
       let one : 1 ≤ length rs = omega arith in
       does (run_refusal s b (length before) (λ z. omega arith) (chain_stands s rs chain one) ∙ chain_free s rs chain one) (record {
@@ -94,7 +107,7 @@ module _ {M : Maker} (b count : ℕ) (cause : Cause) (rs : List ModeRun) (before
         few = omega arith;
         one_short = one_short;
         stopped = λ e. stopped (told ∙ e);
-        answer = ap (λ k. Ran k cause) many ∙ ap (Ran (length rs)) told;
+        answer = ap (λ (k : ℕ). Ran (record { count = k; cause = cause })) many ∙ ap (λ (c : Cause). Ran (record { count = length rs; cause = c })) told;
         buffer = buffer;
         state = end;
       })
@@ -123,25 +136,25 @@ module _ {s t : State} {k : ℕ} (w : Going s t k) where
 
   module _ {M : Maker} (b : ℕ) (before after : List ℕ) (buffer : after ≡ before) where
     module _ {u : State} {x : Option Shortfall} (m : StepTo t u x) (fits : k < b) where
-      stops : (c : Cause) → c ≡ why b (w.runs ++ m.run ∷ []) u → (c ≡ Stop → ⊥) → Does M (Run b) (Ran (k + 1) c) (w.runs ++ m.run ∷ []) before after s u
+      stops : (c : Cause) → c ≡ why b (w.runs ++ m.run ∷ []) u → (c ≡ Stop → ⊥) → Does M (Run b) (Ran (record { count = k + 1; cause = c })) (w.runs ++ m.run ∷ []) before after s u
       stops c e never = ran_so b (k + 1) c (w.runs ++ m.run ∷ []) before after s u buffer (pushed m) (ends_here m) (counts_here m) (omega arith) (omega arith) (last_short_push w.runs m.run w.whole) e (λ q. absurd (never q))
 
-      pub ends_so : stands u.plan ≡ false → Does M (Run b) (Ran (k + 1) End) (w.runs ++ m.run ∷ []) before after s u
+      pub ends_so : stands u.plan ≡ false → Does M (Run b) (Ran (record { count = k + 1; cause = End })) (w.runs ++ m.run ∷ []) before after s u
       ends_so off = stops End (grind (arith, nat_tests, off)) (λ q. let z : ◌≡◌ {A = ℕ} 0 1 = cc in omega arith)
 
-      pub falls_short_so : stands u.plan ≡ true → (y : Shortfall) → x ≡ Some y → Does M (Run b) (Ran (k + 1) Short) (w.runs ++ m.run ∷ []) before after s u
+      pub falls_short_so : stands u.plan ≡ true → (y : Shortfall) → x ≡ Some y → Does M (Run b) (Ran (record { count = k + 1; cause = Short })) (w.runs ++ m.run ∷ []) before after s u
       falls_short_so on y e =
           let some : 0 < missed m.run.outcomes = short_some m.run.outcomes y (sym m.told ∙ e) in
           let total : 0 < short (w.runs ++ m.run ∷ []) = omega (arith, short_push w.runs m.run) in
           stops Short (grind (arith, nat_tests, on, total)) (λ q. let z : ◌≡◌ {A = ℕ} 0 1 = cc in omega arith)
 
-    here : (c : Cause) → 1 ≤ k → k ≤ b → c ≡ why b w.runs t → (c ≡ Stop → (d : SessionDecline) × (next_decline t.plan t.switch ≡ Some d)) → Does M (Run b) (Ran k c) w.runs before after s t
+    here : (c : Cause) → 1 ≤ k → k ≤ b → c ≡ why b w.runs t → (c ≡ Stop → (d : SessionDecline) × (next_decline t.plan t.switch ≡ Some d)) → Does M (Run b) (Ran (record { count = k; cause = c })) w.runs before after s t
     here c some few e stopped = ran_so b k c w.runs before after s t buffer w.chain w.end w.many some few (last_short w.runs w.whole) e stopped
 
-    pub stopped_so : 1 ≤ k → k < b → (d : SessionDecline) → next_decline t.plan t.switch ≡ Some d → Does M (Run b) (Ran k Stop) w.runs before after s t
+    pub stopped_so : 1 ≤ k → k < b → (d : SessionDecline) → next_decline t.plan t.switch ≡ Some d → Does M (Run b) (Ran (record { count = k; cause = Stop })) w.runs before after s t
     stopped_so some less d e = let on = w.on in let z = w.whole in let n = w.many in here Stop some (omega arith) (grind (arith, nat_tests, on, z, n)) (λ q. (d, e))
 
-    pub spent_so : 1 ≤ k → k ≡ b → Does M (Run b) (Ran k Budget) w.runs before after s t
+    pub spent_so : 1 ≤ k → k ≡ b → Does M (Run b) (Ran (record { count = k; cause = Budget })) w.runs before after s t
     spent_so some all_of = let on = w.on in let z = w.whole in let n = w.many in here Budget some (omega arith) (grind (arith, nat_tests, on, z, n)) (λ q. let o : ◌≡◌ {A = ℕ} 0 1 = cc in absurd (omega arith))
 
   -- before the first mode the state is as it was

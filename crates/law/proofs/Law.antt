@@ -57,9 +57,9 @@ ends_lines M s (m ∷ ms) rest h = ends_lines M m.state ms rest h.1 ∙ does_lin
 -- what an answer tells of a plan
 abbrev Told : ℕ → Matrix → Answer → State → Type 0
 Told n owed Accepted t = Unit {0}
-Told n owed (Planned k l) t = Shortest n owed t.plan k l
-Told n owed (Stepped k d x) t = Unit {0}
-Told n owed (Ran k c) t = Unit {0}
+Told n owed (Planned x) t = Shortest n owed t.plan x.modes x.length
+Told n owed (Stepped x) t = Unit {0}
+Told n owed (Ran x) t = Unit {0}
 Told n owed (Units u) t = Unit {0}
 Told n owed (Wrote k) t = Unit {0}
 Told n owed (Declined d) t = Unit {0}

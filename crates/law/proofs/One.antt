@@ -9,8 +9,8 @@ use Rattle.switch.specs.Meaning.{Meaning}
 use Rattle.steps.specs.WholeMode.{carries}
 use Rattle.law.specs.declared.call.Call.{Call}
 use Rattle.law.specs.declared.call.Call.TheVariants.{Post, Withdraw, Batch, Plan, Step, Run, Drop, Owed, Busiest, ModesLeft, LengthLeft, Write}
-use Rattle.law.specs.declared.answer.Cause.{Cause}
-use Rattle.law.specs.declared.answer.Cause.TheVariants.{End, Short, Stop, Budget}
+use Rattle.runs.specs.declared.Cause.{Cause}
+use Rattle.runs.specs.declared.Cause.TheVariants.{End, Short, Stop, Budget}
 use Rattle.law.specs.declared.answer.Answer.{Answer}
 use Rattle.law.specs.declared.answer.Answer.TheVariants.{Planned, Stepped, Ran, Declined}
 use Rattle.law.specs.declared.decline.SessionDecline.{SessionDecline}
@@ -153,7 +153,7 @@ one_run b s r q rs qs before found left t u v w e =
         let cause : why b rs t ≡ why b qs u =
         ap (λ (k : ℕ). cause_of b k (short rs) t.plan) h.count ∙ ap (λ (x : ℕ). cause_of b (length qs) x t.plan) h.fallen ∙ ap (λ (p : Standing). cause_of b (length qs) (short qs) p) like.plan in
         record {
-          answer = v.answer ∙ ap (λ (k : ℕ). Ran k (why b rs t)) h.count ∙ ap (Ran (length qs)) cause ∙ sym w.answer;
+          answer = v.answer ∙ ap (λ (k : ℕ). Ran (record { count = k; cause = why b rs t })) h.count ∙ ap (λ (c : Cause). Ran (record { count = length qs; cause = c })) cause ∙ sym w.answer;
           buffer = v.buffer ∙ sym w.buffer;
           state = like;
         }
@@ -180,7 +180,7 @@ module _ {s : State} {r q : Answer} {rs qs : List ModeRun} {before found left : 
       let b : u.plan ≡ planned 0 w.modes = ap (λ (x : State). x.plan) w.state in
       let same : v.modes ≡ w.modes = cc in
       record {
-        answer = v.answer ∙ ap (λ (ms : List Mode). Planned (length ms) (span ms)) same ∙ sym w.answer;
+        answer = v.answer ∙ ap (λ (ms : List Mode). Planned (record { modes = length ms; length = span ms })) same ∙ sym w.answer;
         buffer = v.buffer ∙ sym w.buffer;
         state = alike_same t u (v.state ∙ ap (λ (ms : List Mode). with_plan (planned 0 ms) s) same ∙ sym w.state);
       }
@@ -194,9 +194,9 @@ module _ {s : State} {r q : Answer} {rs qs : List ModeRun} {before found left : 
       record {
         answer =
             v.answer
-            ∙ ap (λ (k : ℕ). Stepped k v.run.mode.dwell (shortfall v.run.outcomes)) place
-            ∙ ap (λ (m : Mode). Stepped w.advanced.place m.dwell (shortfall v.run.outcomes)) mode
-            ∙ ap (λ (os : List (Option Outcome)). Stepped w.advanced.place w.run.mode.dwell (shortfall os)) agree.0
+            ∙ ap (λ (k : ℕ). Stepped (record { number = k; dwell = v.run.mode.dwell; short = shortfall v.run.outcomes })) place
+            ∙ ap (λ (m : Mode). Stepped (record { number = w.advanced.place; dwell = m.dwell; short = shortfall v.run.outcomes })) mode
+            ∙ ap (λ (os : List (Option Outcome)). Stepped (record { number = w.advanced.place; dwell = w.run.mode.dwell; short = shortfall os })) agree.0
             ∙ sym w.answer;
         buffer = v.buffer ∙ sym w.buffer;
         state = subst (λ (x : State). Alike x u) (sym v.state) (subst (λ (x : State). Alike v.run.after x) (sym w.state) like);

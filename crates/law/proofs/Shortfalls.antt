@@ -7,7 +7,7 @@ use Rattle.lines.specs.Matrix.{uplink}
 use Rattle.lines.proofs.Sums.{sum_zeros, term_le_sum}
 use Rattle.switch.specs.declared.Outcome.{Outcome}
 use Rattle.switch.specs.Meaning.{most_lines}
-use Rattle.law.specs.declared.answer.Shortfall.{Shortfall}
+use Rattle.runs.specs.declared.Shortfall.{Shortfall}
 use Rattle.law.specs.Runs.{missing, missing_at, missed, lowest_short, shortfall_at, shortfall, Lowest, ReportIsLowest}
 
 -- the lowest number at which f is above zero
@@ -52,17 +52,21 @@ module _ (os : List (Option Outcome)) where
   abbrev low : ℕ
   low = lowest_short os
 
-  none_short : most_lines ≤ low → shortfall os ≡ None
+  pub inside : low ≤ most_lines
+  unfolding lowest_short
+  inside = lowest_le most_lines (missing_at os)
+
+  pub none_short : most_lines ≤ low → shortfall os ≡ None
   none_short h = cond-false (ltb low most_lines) (shortfall_at os low (get_or os low None)) None (le-ltb low most_lines h)
 
-  one_short : low < most_lines → shortfall os ≡ shortfall_at os low (get_or os low None)
+  pub one_short : low < most_lines → shortfall os ≡ shortfall_at os low (get_or os low None)
   one_short h = cond-true (ltb low most_lines) (shortfall_at os low (get_or os low None)) None (lt-ltb low most_lines h)
 
-  above : low < most_lines → 0 < missing_at os low
+  pub above : low < most_lines → 0 < missing_at os low
   unfolding lowest_short
   above h = lowest_above most_lines (missing_at os) h
 
-  below : (k : ℕ) → k < low → missing_at os k ≡ 0
+  pub below : (k : ℕ) → k < low → missing_at os k ≡ 0
   unfolding lowest_short
   below = lowest_below_none most_lines (missing_at os)
 

@@ -12,14 +12,13 @@ use Rattle.switch.specs.Calls.{CarriesAt}
 use Rattle.driver.specs.declared.DriverDecline.{DriverDecline}
 use Rattle.steps.specs.WholeMode.{start_decline, carries, StartOr, Runs}
 use Rattle.law.specs.declared.call.Call.TheVariants.{Step}
-use Rattle.law.specs.declared.answer.Shortfall.{Shortfall}
-use Rattle.law.specs.declared.answer.Answer.TheVariants.{Stepped, Declined}
+use Rattle.runs.specs.declared.Shortfall.{Shortfall}
+use Rattle.law.specs.declared.answer.Answer.TheVariants.{Stepped}
 use Rattle.law.specs.declared.decline.SessionDecline.TheVariants.{Mode as OfMode}
 use Rattle.law.specs.States.{State, Plan as Standing, planned, onward}
 use Rattle.law.specs.Runs.{ModeRun, Advanced, carried_by, shortfall}
 use Rattle.law.specs.Refusals.{of_mode, next_decline}
 use Rattle.law.specs.Calls.{Maker, Does, does}
-use Rattle.law.proofs.Said.{declined_so}
 use Rattle.law.proofs.One.{next_free}
 
 -- a mode ran, with these outcomes
@@ -92,15 +91,12 @@ pub next_declined : (s : State) (place : ℕ) (ms : List Mode) (d : DriverDeclin
 next_declined s place ms d stood h = ap (λ (p : Standing). next_decline p s.switch) stood ∙ ap (of_mode place) h
 
 module _ {M : Maker} (before after : List ℕ) (s t : State) (buffer : after ≡ before) where
-  pub step_declined_so : (place : ℕ) (ms : List Mode) (d : DriverDecline) → s.plan ≡ planned place ms → start_decline s.switch ≡ Some d.«switch» → t ≡ s → Does M Step (Declined (OfMode place d)) [] before after s t
-  step_declined_so place ms d stood h same = declined_so Step (next_declined s place ms d stood h) buffer same
-
-  pub stepped_so : (r : ModeRun) (w : Advanced s r) (place dwell : ℕ) (x : Option Shortfall) → place ≡ w.place → dwell ≡ r.mode.dwell → x ≡ shortfall r.outcomes → t ≡ r.after → Does M Step (Stepped place dwell x) (r ∷ []) before after s t
+  pub stepped_so : (r : ModeRun) (w : Advanced s r) (place dwell : ℕ) (x : Option Shortfall) → place ≡ w.place → dwell ≡ r.mode.dwell → x ≡ shortfall r.outcomes → t ≡ r.after → Does M Step (Stepped (record { number = place; dwell = dwell; short = x })) (r ∷ []) before after s t
   stepped_so r w place dwell x p d e same =
       does (next_free s r w) (record {
         run = r;
         advanced = w;
-        answer = ap (λ y. Stepped y dwell x) p ∙ ap (λ y. Stepped w.place y x) d ∙ ap (Stepped w.place r.mode.dwell) e;
+        answer = ap (λ (y : ℕ). Stepped (record { number = y; dwell = dwell; short = x })) p ∙ ap (λ (y : ℕ). Stepped (record { number = w.place; dwell = y; short = x })) d ∙ ap (λ (y : Option Shortfall). Stepped (record { number = w.place; dwell = r.mode.dwell; short = y })) e;
         runs = refl;
         buffer = buffer;
         state = same;

@@ -8,8 +8,8 @@ use Rattle.records.specs.Reservations.{reservations}
 use Rattle.plan_files.specs.Encoding.{encoded}
 use Rattle.law.specs.declared.call.Call.{Call}
 use Rattle.law.specs.declared.call.Call.TheVariants.{Post, Withdraw, Batch, Plan, Step, Run, Drop, Owed, Busiest, ModesLeft, LengthLeft, Write}
-use Rattle.law.specs.declared.answer.Cause.{Cause}
-use Rattle.law.specs.declared.answer.Cause.TheVariants.{End, Short, Stop, Budget}
+use Rattle.runs.specs.declared.Cause.{Cause}
+use Rattle.runs.specs.declared.Cause.TheVariants.{End, Short, Stop, Budget}
 use Rattle.law.specs.declared.answer.Answer.{Answer}
 use Rattle.law.specs.declared.answer.Answer.TheVariants.{Accepted, Planned, Stepped, Ran, Units, Wrote, Declined}
 use Rattle.law.specs.declared.decline.SessionDecline.{SessionDecline}
@@ -47,7 +47,7 @@ pub record Books (more less : Matrix) (r : Answer) (rs : List ModeRun) (before a
 pub record Plans (MadeBy : Maker) (r : Answer) (rs : List ModeRun) (before after : List ℕ) (s t : State) : Type 0 where
   pub modes : List Mode
   pub made : MadeBy s.lines s.owed modes
-  pub answer : r ≡ Planned (length modes) (span modes)
+  pub answer : r ≡ Planned (record { modes = length modes; length = span modes })
   pub runs : rs ≡ []
   pub buffer : after ≡ before
   pub state : t ≡ with_plan (planned 0 modes) s
@@ -56,7 +56,7 @@ pub record Plans (MadeBy : Maker) (r : Answer) (rs : List ModeRun) (before after
 pub record Steps (r : Answer) (rs : List ModeRun) (before after : List ℕ) (s t : State) : Type 0 where
   pub run : ModeRun
   pub advanced : Advanced s run
-  pub answer : r ≡ Stepped advanced.place run.mode.dwell (shortfall run.outcomes)
+  pub answer : r ≡ Stepped (record { number = advanced.place; dwell = run.mode.dwell; short = shortfall run.outcomes })
   pub runs : rs ≡ run ∷ []
   pub buffer : after ≡ before
   pub state : t ≡ run.after
@@ -81,7 +81,7 @@ pub record Continues (b : ℕ) (r : Answer) (rs : List ModeRun) (before after : 
   pub few : length rs ≤ b
   pub one_short : LastShort rs
   pub stopped : why b rs t ≡ Stop → (d : SessionDecline) × (next_decline t.plan t.switch ≡ Some d)
-  pub answer : r ≡ Ran (length rs) (why b rs t)
+  pub answer : r ≡ Ran (record { count = length rs; cause = why b rs t })
   pub buffer : after ≡ before
   pub state : t ≡ last s rs
 

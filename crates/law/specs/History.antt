@@ -65,9 +65,9 @@ takes Write = nothing
 
 abbrev pub if_accepted : Answer → Matrix → Matrix
 if_accepted Accepted m = m
-if_accepted (Planned k l) m = nothing
-if_accepted (Stepped k d x) m = nothing
-if_accepted (Ran k c) m = nothing
+if_accepted (Planned x) m = nothing
+if_accepted (Stepped x) m = nothing
+if_accepted (Ran x) m = nothing
 if_accepted (Units u) m = nothing
 if_accepted (Wrote k) m = nothing
 if_accepted (Declined d) m = nothing
@@ -123,7 +123,7 @@ pub record Paced (n : ℕ) (s : State) (between : List Moment) (t : State) : Typ
 -- the law of a list of calls on a session made over a switch
 pub record Law (over : Meaning) (start : State) (ms : List Moment) : Type 0 where
   pub balance : (past rest : List Moment) → ms ≡ past ++ rest → Balanced over past (ends start past)
-  pub shortest : (past rest : List Moment) (m : Moment) (modes length : ℕ) → ms ≡ past ++ (m ∷ rest) → m.answer ≡ Planned modes length → Shortest over.lines (ends start past).owed m.state.plan modes length
+  pub shortest : (past rest : List Moment) (m : Moment) (modes length : ℕ) → ms ≡ past ++ (m ∷ rest) → m.answer ≡ Planned (record { modes = modes; length = length }) → Shortest over.lines (ends start past).owed m.state.plan modes length
   pub pace : (past between rest : List Moment) → ms ≡ past ++ (between ++ rest) → (ends start past).plan ≡ idle → Quiet between → Paced over.lines (ends start past) between (ends (ends start past) between)
 
 -- the schedules that may be made serve the matrix exactly, and are as long as its busiest line

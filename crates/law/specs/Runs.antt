@@ -8,7 +8,7 @@ use Rattle.switch.specs.declared.Outcome.{Outcome}
 use Rattle.switch.specs.Meaning.{most_lines}
 use Rattle.switch.specs.Calls.{CarriesAt, carried_to}
 use Rattle.steps.specs.WholeMode.{start_decline, carries}
-use Rattle.law.specs.declared.answer.Shortfall.{Shortfall}
+use Rattle.runs.specs.declared.Shortfall.{Shortfall}
 use Rattle.law.specs.States.{State, planned, onward}
 
 -- a mode that was run, what became of each uplink's grant, and the state after

@@ -26,12 +26,6 @@ pub record Lawful (MadeBy : Maker) (c : Call) (r : Answer) (before after : List 
   pub does : Does MadeBy c r runs before after s t
   pub next : Next MadeBy (record { call = c; answer = r; runs = runs; before = before; after = after; state = t }) s
 
--- some calls lead from s to t: with them after whatever calls led to s, the law holds of all
-abbrev pub Reaches : Maker → State → State → Type 0
-Reaches MadeBy s t =
-    (over : Meaning) (start : State) (ms : List Moment) → Story MadeBy over start ms s →
-    (more : List Moment) × (Story MadeBy over start (ms ++ more) t × Law over start (ms ++ more))
-
 abbrev pub calls_of : List Moment → List Call
 calls_of [] = []
 calls_of (m ∷ ms) = m.call ∷ calls_of ms

@@ -1,10 +1,12 @@
 // Why a session declines a call.
 ghost use Rattle.std.specs.Prelude.{◌≡◌};
+ghost use Rattle.law.specs.declared.decline.SessionDecline.TheVariants.{Booking, ShortBuffer};
 ghost use Rattle.law.specs.Declines.{number, place, layer};
 
 use driver::DriverDecline;
-use lines::Place;
+use lines::{Decline, Place};
 use owed::OwedDecline;
+use plan_files::WriteDecline;
 
 #[derive(Clone, Copy, PartialEq, Eq, Debug)]
 pub enum SessionDecline {
@@ -38,27 +40,27 @@ pub enum Layer {
     Switch { mode: usize },
 }
 
-impl SessionDecline {
-    pub fn number(&self) -> u16
-        ensures { result ≡ number self.now }
-    {
+impl Decline for SessionDecline {
+    ghost number = { number };
+
+    ghost place = { place };
+
+    fn number(&self) -> u16 {
         match *self {
             SessionDecline::PlanStands => 6,
             SessionDecline::NoPlan => 9,
             SessionDecline::NothingOwed => 10,
             SessionDecline::NoBudget => 5,
-            SessionDecline::Booking(decline) => u16::from(decline.number()),
+            SessionDecline::Booking(decline) => decline.number(),
             SessionDecline::PartRecord => 15,
-            SessionDecline::Record { decline, .. } => u16::from(decline.number()),
+            SessionDecline::Record { decline, .. } => decline.number(),
             SessionDecline::Mode { decline, .. } => decline.number(),
             SessionDecline::ShortBuffer => 16,
             SessionDecline::NoMemory => 0,
         }
     }
 
-    pub fn place(&self) -> Place
-        ensures { result ≡ place self.now }
-    {
+    fn place(&self) -> Place {
         match *self {
             SessionDecline::Booking(decline) => decline.place(),
             SessionDecline::Record { decline, .. } => decline.place(),
@@ -72,7 +74,27 @@ impl SessionDecline {
             | SessionDecline::NoMemory => Place::Nowhere,
         }
     }
+}
 
+impl From<OwedDecline> for SessionDecline {
+    ghost from_gives = { λ e d. d ≡ Booking e };
+
+    fn from(decline: OwedDecline) -> SessionDecline {
+        Self::Booking(decline)
+    }
+}
+
+impl From<WriteDecline> for SessionDecline {
+    ghost from_gives = { λ _ d. d ≡ ShortBuffer };
+
+    fn from(decline: WriteDecline) -> SessionDecline {
+        match decline {
+            WriteDecline::ShortBuffer => Self::ShortBuffer,
+        }
+    }
+}
+
+impl SessionDecline {
     pub fn layer(&self) -> Layer
         ensures { result ≡ layer self.now }
     {

@@ -6,7 +6,8 @@ mod call;
 mod decline;
 mod stands;
 
-pub use answer::{Answer, Cause, Shortfall};
+pub use answer::{Answer, PlanSize, RunEnd, Step};
 pub use call::Call;
 pub use decline::{Layer, SessionDecline};
+pub use runs::{Cause, Shortfall};
 pub use stands::{Planning, law_stands};

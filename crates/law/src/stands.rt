@@ -13,6 +13,7 @@ pub trait Planning {
     ghost good: { Makes makes };
 }
 
+// Apart, so that an edit can leave the law out.
 fn law_holds<P: Planning>(_planner: &P)
     ensures law { EveryList P.makes }
     ensures single { OneAnswer P.makes }

@@ -18,27 +18,21 @@ use switch::Switch;
 fn give<S: Switch, E: Engine>(session: &mut Session<S, E>, call: Call<'_>, out: &mut [u8]) -> Answer
     ensures { Acted (PlannedBy E.Engine.may) call.entry result out.old out.new (state_of S.meaning session.old) (state_of S.meaning session.new) }
 {
+    // a match and no table of functions: it is refused where a call is missing
     match call {
-        Call::Post { up, down, units } => session.post(up, down, units),
-        Call::Withdraw { up, down, units } => session.withdraw(up, down, units),
-        Call::Batch(bytes) => session.batch(bytes),
-        Call::Plan => session.plan(),
-        Call::Step => session.step(),
-        Call::Run(budget) => session.run(budget),
-        Call::Drop => session.drop_plan(),
-        Call::Owed { up, down } => session.owed(up, down),
-        Call::Busiest => session.busiest(),
-        Call::ModesLeft => session.modes_left(),
-        Call::LengthLeft => session.length_left(),
-        Call::Write => session.write(out),
+        Call::Post { up, down, units } => session.post(up, down, units).into(),
+        Call::Withdraw { up, down, units } => session.withdraw(up, down, units).into(),
+        Call::Batch(bytes) => session.batch(bytes).into(),
+        Call::Plan => session.plan().into(),
+        Call::Step => session.step().into(),
+        Call::Run(budget) => session.run(budget).into(),
+        Call::Drop => session.drop_plan().into(),
+        Call::Owed { up, down } => session.owed(up, down).into(),
+        Call::Busiest => session.busiest().into(),
+        Call::ModesLeft => session.modes_left().into(),
+        Call::LengthLeft => session.length_left().into(),
+        Call::Write => session.write(out).into(),
     }
-}
-
-// Gives a call to a session, after whatever calls led there.
-fn act<S: Switch, E: Engine>(session: &mut Session<S, E>, call: Call<'_>, out: &mut [u8]) -> Answer
-    ensures { Lawful (PlannedBy E.Engine.may) call.entry result out.old out.new (state_of S.meaning session.old) (state_of S.meaning session.new) }
-{
-    give(session, call, out)
 }
 
 // Gives a call to a session. It does what is said of it, and with it the law holds of all calls since the making.
@@ -49,7 +43,7 @@ pub fn answer<S: Switch, E: Engine>(
 ) -> Answer
     ensures { Lawful (PlannedBy E.Engine.may) call.entry result out.old out.new (state_of S.meaning session.old) (state_of S.meaning session.new) }
 {
-    act(session, call, out)
+    give(session, call, out)
 }
 
 // Gives calls to a session in turn, as far as there is room for their answers.
@@ -62,9 +56,10 @@ fn give_all<S: Switch, E: Engine>(
     ensures performed { (over : Meaning) → Made over (state_of S.meaning session.old) → Performed (PlannedBy E.Engine.may) over (take (min (length calls.now) (length answers.old)) calls.now) (take (min (length calls.now) (length answers.old)) answers.new) out.old out.new (state_of S.meaning session.new) }
     ensures untouched { drop (min (length calls.now) (length answers.old)) answers.new ≡ drop (min (length calls.now) (length answers.old)) answers.old }
 {
+    // By index and not by `zip`: after a `zip` over `iter_mut` no proof knows what was written.
     let n = calls.len().min(answers.len());
     for i in 0..n {
-        answers[i] = act(session, calls[i], out);
+        answers[i] = answer(session, calls[i], out);
     }
 }
 

@@ -34,6 +34,10 @@ pub record Good (o : Owed) (st : State) : Type 0 where
 pub good_of : {S E : Type 0} (s : Session S E) (st : State) → s.state ≡ st → Good s.owed st
 good_of s st e = subst (λ (x : State). Good s.owed x) e (record { next = s.next; length = s.length; within = s.within; lines = s.lines })
 
+-- without a plan a session keeps nothing
+pub good_idle : (o : Owed) (st : State) → st ≡ Idle → Good o st
+good_idle o st e = subst (λ (x : State). Good o x) (sym e) (record { next = omega arith; length = refl; within = λ a b. omega arith; lines = refl })
+
 -- on a switch with the lines that units are owed on, the plan stands as it is
 pub stands_as_is : (n l : ℕ) (st : State) → n ≡ l → standing_on n l st ≡ standing st
 stands_as_is n l Idle e = refl

@@ -1,5 +1,5 @@
 -- The next mode of a session, run or declined. Assumes nothing.
-use Rattle.std.proofs.Common.{◌≡◌, ℕ, ◌+◌, ◌-◌, ◌≤◌, List, ◌∷◌, drop, Ok, Err, Option, sym, refl, ap, ◌∙◌, subst, arith}
+use Rattle.std.proofs.Common.{◌≡◌, ℕ, ◌+◌, ◌-◌, ◌≤◌, List, [], ◌∷◌, drop, Some, Ok, Err, Option, sym, refl, ap, ◌∙◌, subst, arith}
 use Rattle.schedule.specs.declared.Mode.{Mode}
 use Rattle.schedule.specs.Modes.{Sound, granted}
 use Rattle.owed.specs.declared.matrix.Owed.{Owed}
@@ -11,18 +11,44 @@ use Rattle.steps.specs.WholeMode.{Runs}
 use Rattle.planning.specs.declared.plan.Plan.{Plan}
 use Rattle.planning.specs.Plans.{plan_lines, plan_modes}
 use Rattle.planning.specs.Kept.{mode_at}
-use Rattle.law.specs.declared.answer.Shortfall.{Shortfall}
+use Rattle.runs.specs.declared.Shortfall.{Shortfall}
+use Rattle.law.specs.declared.answer.Step.{Step}
+use Rattle.law.specs.declared.answer.Answer.TheVariants.{Stepped, Declined}
+use Rattle.law.specs.declared.call.Call.TheVariants.{Step as ToStep}
+use Rattle.law.specs.declared.decline.SessionDecline.{SessionDecline}
 use Rattle.law.specs.declared.decline.SessionDecline.TheVariants.{Mode as OfMode}
 use Rattle.law.specs.States.{State as Shown, planned}
-use Rattle.law.specs.Runs.{carried_by, shortfall}
-use Rattle.law.proofs.Stepping.{RanWhole, whole_ran, whole_declined, mode_run, advanced_so, next_declined}
+use Rattle.law.specs.Runs.{ModeRun, Advanced, carried_by, shortfall}
+use Rattle.law.specs.Refusals.{next_decline}
+use Rattle.law.specs.Calls.{Maker}
+use Rattle.law.proofs.Stepping.{RanWhole, whole_ran, whole_declined, mode_run, advanced_so, next_declined, stepped_so}
 use Rattle.session.specs.declared.state.State.{State}
 use Rattle.session.specs.declared.state.State.TheVariants.{Planned}
 use Rattle.session.specs.declared.state.Session.{Session}
-use Rattle.session.specs.declared.running.Step.{Step}
 use Rattle.session.specs.Standing.{length_of, standing, standing_on, lines_for, onward_of}
-use Rattle.session.specs.Sessions.{state_of, StepsTo, Stays}
+use Rattle.session.specs.Sessions.{state_of, Acts}
+use Rattle.session.proofs.Acting.{declines}
 use Rattle.session.proofs.Advances.{Good, good_of, stands_as_is, carried_within, left_next, span_next, grants_next, next_sound, goes_on, good_on}
+
+-- the next mode has been run, and this is told of it
+pub record StepsTo (x : Step) (s t : Shown) : Type 0 where
+  pub run : ModeRun
+  pub advanced : Advanced s run
+  pub number : x.number ≡ advanced.place
+  pub dwell : x.dwell ≡ run.mode.dwell
+  pub short : x.short ≡ shortfall run.outcomes
+  pub state : t ≡ run.after
+
+pub steps_so : {M : Maker} {k : Step} {s t : Shown} → StepsTo k s t → Acts M ToStep (Stepped k) s t
+steps_so w = record { runs = w.run ∷ []; does = λ buffer. stepped_so buffer buffer _ _ refl w.run w.advanced _ _ _ w.number w.dwell w.short w.state }
+
+-- the next mode could not be run
+pub record Stays (d : SessionDecline) (s t : Shown) : Type 0 where
+  pub why : next_decline s.plan s.«switch» ≡ Some d
+  pub state : t ≡ s
+
+pub stays_so : {M : Maker} {d : SessionDecline} {s t : Shown} → Stays d s t → (x : SessionDecline) → x ≡ d → Acts M ToStep (Declined x) s t
+stays_so w x is = declines ToStep x _ _ (λ size. w.why ∙ ap Some (sym is)) w.state
 
 -- what is shown of a switch, of owed units and of a state
 abbrev pub shown : {S : Type 0} → (S → Meaning) → S → Owed → State → Shown
@@ -79,7 +105,7 @@ module _ {S E : Type 0} (meaning : S → Meaning) (s : Session S E) (p : Plan) (
         pub steps : (y : Option Shortfall) → y ≡ shortfall os → (z : Shown) → state_of meaning s ≡ z → (k : Step) → k ≡ record { number = place; dwell = m.dwell; short = y } → StepsTo k z (shown meaning x o st)
         steps y told z same k k-is =
             let t = shown meaning x o st in
-            let adv = advanced_so (state_of meaning s) t place m rest os n sound (omega (arith, agrees, p.few_lines)) stood whole same_lines
+            let adv = advanced_so (state_of meaning s) t place m rest os n sound (omega (arith, agrees, p.lines.few)) stood whole same_lines
             (λ a b. omega (arith, settled a b, within a b, grants_next s.owed p place left good m m-is a b))
             (goes ∙ ap standing went ∙ goes_on s.owed p place left good m m-is) in
             subst (λ (w : Shown). StepsTo k w t) same

@@ -1,5 +1,5 @@
 -- The modes left, written as records. Assumes nothing.
-use Rattle.std.proofs.Common.{◌≡◌, ℕ, ◌*◌, ◌<◌, ◌≤◌, Bool, true, false, cond, eqb, List, [], ◌++◌, length, drop, Some, None, Ok, Err, Option, sym, refl, ap, ◌∙◌, subst, inl, inr, arith}
+use Rattle.std.proofs.Common.{◌≡◌, ℕ, ◌*◌, ◌<◌, ◌≤◌, Bool, true, false, cond, eqb, List, [], ◌++◌, length, drop, Some, None, Ok, Err, Option, Result, IsErrAnd, sym, refl, ap, ◌∙◌, subst, inl, inr, arith}
 use Rattle.std.proofs.lemmas.Bool.{cases_lt, lt-ltb, le-ltb}
 use Rattle.lines.specs.Verdicts.{told, or_same}
 use Rattle.schedule.specs.declared.Mode.{Mode}
@@ -13,6 +13,7 @@ use Rattle.owed.specs.Calls.{lines_of}
 use Rattle.switch.specs.Meaning.{Meaning}
 use Rattle.law.specs.declared.call.Call.TheVariants.{Write}
 use Rattle.law.specs.declared.answer.Answer.TheVariants.{Wrote, Declined}
+use Rattle.law.specs.declared.decline.SessionDecline.{SessionDecline}
 use Rattle.law.specs.declared.decline.SessionDecline.TheVariants.{NoPlan, ShortBuffer}
 use Rattle.law.specs.States.{idle, planned, stands}
 use Rattle.law.specs.Calls.{Maker, Does}
@@ -22,7 +23,7 @@ use Rattle.session.specs.declared.state.State.{State}
 use Rattle.session.specs.declared.state.State.TheVariants.{Planned}
 use Rattle.session.specs.declared.state.Session.{Session}
 use Rattle.session.specs.Standing.{standing_on}
-use Rattle.session.specs.Sessions.{state_of}
+use Rattle.session.specs.Sessions.{state_of, answer_of}
 use Rattle.session.proofs.Acting.{no_plan}
 use Rattle.session.proofs.Advances.{good_of}
 
@@ -74,10 +75,14 @@ module _ {S E : Type 0} (meaning : S → Meaning) (s : Session S E) (p : Plan) (
       (out ∙ ap (λ (o : Option WriteDecline). or_same o (encoded n given ++ drop (52 * length given) before) before) free
       ∙ ap (λ (l : List ℕ). l ++ drop (52 * length given) before) bytes ∙ ap (λ (k : ℕ). encoded (lines_of s.owed) ms ++ drop k before) (sym count))
 
-  pub writes_not : {M : Maker} (d : WriteDecline) → Err d ≡ told (write_decline (length given) (length before)) (52 * length given) → Does M Write (Declined ShortBuffer) [] before after (state_of meaning s) (state_of meaning s)
-  writes_not d e =
-      let h = some_told _ (52 * length given) d e in
+  pub writes_not : {M : Maker} (d : WriteDecline) → Err d ≡ told (write_decline (length given) (length before)) (52 * length given) →
+      (r : Result ℕ SessionDecline) (Q : SessionDecline → Type 0) → IsErrAnd r Q → ((x : SessionDecline) → Q x → x ≡ ShortBuffer) →
+      Does M Write (answer_of Wrote r) [] before after (state_of meaning s) (state_of meaning s)
+  writes_not d e (Ok x) Q q k = absurd q
+  writes_not {M} d e (Err x) Q q k =
+      let h : write_decline (length given) (length before) ≡ Some d = some_told _ (52 * length given) d e in
       let same : length given ≡ length ms = ap length given_is in
-      short_buffer_so before after (state_of meaning s) (state_of meaning s) place ms stood refl
+      subst (λ (y : SessionDecline). Does M Write (Declined y) [] before after (state_of meaning s) (state_of meaning s)) (sym (k x q))
+      (short_buffer_so before after (state_of meaning s) (state_of meaning s) place ms stood refl
       (omega (arith, too_many (length given) (length before) d h, same))
-      (out ∙ ap (λ (o : Option WriteDecline). or_same o (encoded n given ++ drop (52 * length given) before) before) h)
+      (out ∙ ap (λ (o : Option WriteDecline). or_same o (encoded n given ++ drop (52 * length given) before) before) h))

@@ -1,20 +1,42 @@
-// Bookings and plans, as results.
-ghost use Rattle.std.specs.Prelude.{◌≡◌, ◌==◌};
+// A session's making, and the calls on what is owed.
+ghost use Rattle.std.specs.Prelude.{◌≡◌, ◌==◌, Option, Some, MatchResult};
 ghost use Rattle.owed.specs.Calls.{lines_of};
-ghost use Rattle.law.specs.declared.call.Call.TheVariants.{Post, Withdraw, Batch, Plan as ToPlan, Drop as ToDrop, Owed as AskOwed, ModesLeft};
+ghost use Rattle.law.specs.declared.call.Call.TheVariants.{Post, Withdraw, Batch, Owed as AskOwed, Busiest};
 ghost use Rattle.law.specs.declared.answer.Answer.TheVariants.{Units};
+ghost use Rattle.law.specs.declared.decline.SessionDecline.{SessionDecline as Declined};
+ghost use Rattle.law.specs.Refusals.{unless_planned};
+ghost use Rattle.law.specs.History.{Made};
+ghost use Rattle.session.specs.declared.state.State.TheVariants.{Idle};
 ghost use Rattle.session.specs.Standing.{standing, lines_for};
-ghost use Rattle.session.specs.Sessions.{state_of, PlannedBy, Acts, accepted, planned_of, units_told};
+ghost use Rattle.session.specs.Sessions.{state_of, PlannedBy, Acts, accepted, answer_of};
 
 use super::state::{Session, State};
 use booking::post_batch;
 use law::SessionDecline;
 use lines::{Downlink, Uplink};
 use matching::Engine;
-use planning::{PlanDecline, make_plan};
+use owed::Owed;
+use std::alloc::Global;
 use switch::Switch;
 
 impl<S: Switch, E: Engine> Session<S, E> {
+    // A session with nothing owed and no plan. A mode that is open on the switch is voided.
+    pub fn new(heap: Global, mut switch: S, engine: E) -> Session<S, E>
+        ensures { Made (S.meaning switch) (state_of S.meaning result) }
+    {
+        let _ = switch.void();
+        let Ok(owed) = Owed::new(switch.lines()) else {
+            unreachable()
+        };
+        Session {
+            switch,
+            engine,
+            heap,
+            owed,
+            state: State::Idle,
+        }
+    }
+
     // Whether the switch has the lines that units are owed on, as it always has.
     pub(super) fn agrees(&self) -> bool
         ensures { result ≡ ((S.meaning self.now.«switch»).lines == lines_of self.now.owed) }
@@ -28,124 +50,60 @@ impl<S: Switch, E: Engine> Session<S, E> {
         ensures plan { (state_of S.meaning self.new).plan ≡ standing self.new.state }
         ensures lines { lines_for (S.meaning self.new.«switch»).lines self.new.state ≡ (S.meaning self.new.«switch»).lines }
     {
-        if self.switch.lines() != self.owed.lines() {
+        if !self.agrees() {
             self.state = State::Idle;
         }
     }
 
-    pub(super) fn book_post(
-        &mut self,
-        up: Uplink,
-        down: Downlink,
-        units: u32,
-    ) -> Result<(), SessionDecline>
+    // Declines while a plan stands.
+    pub(super) fn without_plan(&mut self) -> Result<(), SessionDecline>
+        ensures same { state_of S.meaning self.new ≡ state_of S.meaning self.old }
+        ensures free { MatchResult result (λ _. self.new.state ≡ Idle) (λ d. (next : Option Declined) → unless_planned (state_of S.meaning self.new).plan next ≡ Some d) }
+    {
+        self.refresh();
+        match self.state {
+            State::Idle => Ok(()),
+            State::Planned { .. } => Err(SessionDecline::PlanStands),
+        }
+    }
+
+    // Adds units to those owed at a crosspoint.
+    pub fn post(&mut self, up: Uplink, down: Downlink, units: u32) -> Result<(), SessionDecline>
         ensures { Acts (PlannedBy E.Engine.may) (Post up down units) (accepted result) (state_of S.meaning self.old) (state_of S.meaning self.new) }
     {
-        self.refresh();
-        match self.state {
-            State::Planned { .. } => Err(SessionDecline::PlanStands),
-            State::Idle => match self.owed.add(up, down, units) {
-                Ok(()) => Ok(()),
-                Err(e) => Err(SessionDecline::Booking(e)),
-            },
-        }
+        self.without_plan()?;
+        self.owed.add(up, down, units)?;
+        Ok(())
     }
 
-    pub(super) fn book_withdrawal(
-        &mut self,
-        up: Uplink,
-        down: Downlink,
-        units: u32,
-    ) -> Result<(), SessionDecline>
+    // Takes units off those owed at a crosspoint.
+    pub fn withdraw(&mut self, up: Uplink, down: Downlink, units: u32) -> Result<(), SessionDecline>
         ensures { Acts (PlannedBy E.Engine.may) (Withdraw up down units) (accepted result) (state_of S.meaning self.old) (state_of S.meaning self.new) }
     {
-        self.refresh();
-        match self.state {
-            State::Planned { .. } => Err(SessionDecline::PlanStands),
-            State::Idle => match self.owed.take(up, down, units) {
-                Ok(()) => Ok(()),
-                Err(e) => Err(SessionDecline::Booking(e)),
-            },
-        }
+        self.without_plan()?;
+        self.owed.take(up, down, units)?;
+        Ok(())
     }
 
-    pub(super) fn book_batch(&mut self, bytes: &[u8]) -> Result<(), SessionDecline>
+    // Posts reservations, all of them or none.
+    pub fn batch(&mut self, bytes: &[u8]) -> Result<(), SessionDecline>
         ensures { Acts (PlannedBy E.Engine.may) (Batch bytes.entry) (accepted result) (state_of S.meaning self.old) (state_of S.meaning self.new) }
     {
-        self.refresh();
-        match self.state {
-            State::Planned { .. } => Err(SessionDecline::PlanStands),
-            State::Idle => match post_batch(&mut self.owed, bytes) {
-                Ok(()) => Ok(()),
-                Err(e) => Err(e),
-            },
-        }
+        self.without_plan()?;
+        post_batch(&mut self.owed, bytes)
     }
 
-    // Makes a plan and takes it up, and answers its number of modes and its length.
-    pub(super) fn take_up(&mut self) -> Result<(usize, u32), SessionDecline>
-        ensures { Acts (PlannedBy E.Engine.may) ToPlan (planned_of result) (state_of S.meaning self.old) (state_of S.meaning self.new) }
+    // The units owed at a crosspoint.
+    pub fn owed(&self, up: Uplink, down: Downlink) -> Result<u32, SessionDecline>
+        ensures { Acts (PlannedBy E.Engine.may) (AskOwed up down) (answer_of Units result) (state_of S.meaning self.now) (state_of S.meaning self.now) }
     {
-        self.refresh();
-        match self.state {
-            State::Planned { .. } => Err(SessionDecline::PlanStands),
-            State::Idle => match make_plan(self.heap, &self.engine, &self.owed) {
-                Ok(plan) => {
-                    // for other lines than the switch has, no plan could stand
-                    if !self.agrees() {
-                        return Err(SessionDecline::NoMemory);
-                    }
-                    let modes = plan.count();
-                    let length = plan.length();
-                    self.state = State::Planned {
-                        plan,
-                        place: 0,
-                        left: length,
-                    };
-                    Ok((modes, length))
-                }
-                Err(e) => match e {
-                    PlanDecline::NothingOwed => Err(SessionDecline::NothingOwed),
-                    PlanDecline::NoMemory => Err(SessionDecline::NoMemory),
-                },
-            },
-        }
+        Ok(self.owed.units(up, down)?)
     }
 
-    pub(super) fn end_plan(&mut self) -> Result<(), SessionDecline>
-        ensures { Acts (PlannedBy E.Engine.may) ToDrop (accepted result) (state_of S.meaning self.old) (state_of S.meaning self.new) }
+    // The largest line sum.
+    pub fn busiest(&self) -> u32
+        ensures { Acts (PlannedBy E.Engine.may) Busiest (Units result) (state_of S.meaning self.now) (state_of S.meaning self.now) }
     {
-        self.refresh();
-        match self.state {
-            State::Idle => Err(SessionDecline::NoPlan),
-            State::Planned { .. } => {
-                self.state = State::Idle;
-                Ok(())
-            }
-        }
-    }
-
-    pub(super) fn units_owed(&self, up: Uplink, down: Downlink) -> Result<u32, SessionDecline>
-        ensures { Acts (PlannedBy E.Engine.may) (AskOwed up down) (units_told result) (state_of S.meaning self.now) (state_of S.meaning self.now) }
-    {
-        match self.owed.units(up, down) {
-            Ok(units) => Ok(units),
-            Err(e) => Err(SessionDecline::Booking(e)),
-        }
-    }
-
-    pub(super) fn count_left(&self) -> u32
-        ensures { Acts (PlannedBy E.Engine.may) ModesLeft (Units result) (state_of S.meaning self.now) (state_of S.meaning self.now) }
-    {
-        match &self.state {
-            State::Idle => 0,
-            State::Planned { plan, place, .. } => {
-                if self.agrees() {
-                    (plan.count() - *place) as u32
-                } else {
-                    0
-                }
-            }
-        }
+        self.owed.busiest()
     }
 }

@@ -2,9 +2,8 @@
 #![tactic(auto)]
 
 mod bookings;
-mod calls;
+mod plans;
 mod running;
 mod state;
-mod writing;
 
 pub use state::{Session, State};

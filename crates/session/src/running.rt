@@ -1,28 +1,21 @@
 // Running the modes of a plan.
-ghost use Rattle.std.specs.Prelude.{◌≡◌, ℕ, ◌+◌, ◌-◌, ◌<◌, ◌≤◌, MatchResult};
+ghost use Rattle.std.specs.Prelude.{◌≡◌, ◌<◌, ◌≤◌};
 ghost use Rattle.session.specs.Standing.{place_of, count_of, length_of, onward_of};
 ghost use Rattle.schedule.specs.Modes.{Sound};
 ghost use Rattle.steps.specs.WholeMode.{Runs};
 ghost use Rattle.law.specs.declared.call.Call.TheVariants.{Step as ToStep, Run as ToRun};
+ghost use Rattle.law.specs.declared.answer.Answer.TheVariants.{Stepped, Ran};
 ghost use Rattle.law.specs.States.{stands as standing_plan};
-ghost use Rattle.session.specs.Sessions.{state_of, PlannedBy, Acts, StepsTo, Stays, stepped_of, ran_of};
+ghost use Rattle.session.specs.Sessions.{state_of, PlannedBy, Acts, answer_of};
 
 use super::state::{Session, State};
 use booking::{fell_short, settle};
 use driver::DriverDecline;
-use law::{Cause, SessionDecline, Shortfall};
+use law::{Cause, RunEnd, SessionDecline, Step};
 use matching::Engine;
 use schedule::Mode;
 use steps::run_mode;
 use switch::{Outcome, Switch};
-
-// What is told of a mode that was run.
-#[derive(Clone, Copy)]
-pub struct Step {
-    pub number: usize,
-    pub dwell: u16,
-    pub short: Option<Shortfall>,
-}
 
 // Goes on to the next place of a plan, which ends after its last mode.
 fn go_on(state: &mut State, dwell: u16)
@@ -42,7 +35,7 @@ fn go_on(state: &mut State, dwell: u16)
     }
 }
 
-// Runs a mode of a plan on a switch: it is opened, granted and run.
+// Runs a mode of a plan on a switch. Only what holds of the modes of a plan is told.
 fn run_planned<S: Switch>(s: &mut S, mode: &Mode) -> Result<[Option<Outcome>; 16], DriverDecline>
     ensures { Sound (S.meaning s.old).lines mode.now → Runs mode.now (S.meaning s.old) (S.meaning s.new) result }
 {
@@ -60,41 +53,31 @@ impl<S: Switch, E: Engine> Session<S, E> {
         }
     }
 
-    // Runs the plan's next mode.
-    fn advance(&mut self) -> Result<Step, SessionDecline>
-        ensures { MatchResult result (λ x. StepsTo x (state_of S.meaning self.old) (state_of S.meaning self.new)) (λ d. Stays d (state_of S.meaning self.old) (state_of S.meaning self.new)) }
+    // Runs the next mode. What it carried leaves the owed units.
+    pub fn step(&mut self) -> Result<Step, SessionDecline>
+        ensures { Acts (PlannedBy E.Engine.may) ToStep (answer_of Stepped result) (state_of S.meaning self.old) (state_of S.meaning self.new) }
     {
         self.refresh();
-        let (mode, number) = match &self.state {
-            State::Idle => return Err(SessionDecline::NoPlan),
-            State::Planned { plan, place, .. } => (plan.modes()[*place], *place),
+        let State::Planned { plan, place, .. } = &self.state else {
+            return Err(SessionDecline::NoPlan);
         };
-        match run_planned(&mut self.switch, &mode) {
-            Err(decline) => Err(SessionDecline::Mode { number, decline }),
-            Ok(outcomes) => {
-                settle(&mut self.owed, &outcomes);
-                go_on(&mut self.state, mode.dwell);
-                Ok(Step {
-                    number,
-                    dwell: mode.dwell,
-                    short: fell_short(&outcomes),
-                })
-            }
-        }
-    }
-
-    pub(super) fn next_step(&mut self) -> Result<Step, SessionDecline>
-        ensures { Acts (PlannedBy E.Engine.may) ToStep (stepped_of result) (state_of S.meaning self.old) (state_of S.meaning self.new) }
-    {
-        match self.advance() {
-            Ok(x) => Ok(x),
-            Err(d) => Err(d),
-        }
+        let (mode, number) = (plan.modes()[*place], *place);
+        let outcomes = run_planned(&mut self.switch, &mode).map_err(|decline| SessionDecline::Mode {
+            number,
+            decline,
+        })?;
+        settle(&mut self.owed, &outcomes);
+        go_on(&mut self.state, mode.dwell);
+        Ok(Step {
+            number,
+            dwell: mode.dwell,
+            short: fell_short(&outcomes),
+        })
     }
 
     // Steps up to so many modes, and answers how many ran and why it stopped.
-    pub(super) fn run_modes(&mut self, budget: u16) -> Result<(u16, Cause), SessionDecline>
-        ensures { Acts (PlannedBy E.Engine.may) (ToRun budget) (ran_of result) (state_of S.meaning self.old) (state_of S.meaning self.new) }
+    pub fn run(&mut self, budget: u16) -> Result<RunEnd, SessionDecline>
+        ensures { Acts (PlannedBy E.Engine.may) (ToRun budget) (answer_of Ran result) (state_of S.meaning self.old) (state_of S.meaning self.new) }
     {
         if !self.stands() {
             return Err(SessionDecline::NoPlan);
@@ -102,25 +85,37 @@ impl<S: Switch, E: Engine> Session<S, E> {
         if budget == 0 {
             return Err(SessionDecline::NoBudget);
         }
-        let mut count: u16 = 0;
-        while count < budget {
-            let x = match self.advance() {
-                Ok(x) => x,
-                Err(d) => {
+        for count in 0..budget {
+            let step = match self.step() {
+                Ok(step) => step,
+                Err(decline) => {
+                    // the first mode's decline is the run's own, a later one only stops it
                     if count == 0 {
-                        return Err(d);
+                        return Err(decline);
                     }
-                    return Ok((count, Cause::Stop));
+                    return Ok(RunEnd {
+                        count,
+                        cause: Cause::Stop,
+                    });
                 }
             };
-            count += 1;
+            let ran = count + 1;
             if !self.stands() {
-                return Ok((count, Cause::End));
+                return Ok(RunEnd {
+                    count: ran,
+                    cause: Cause::End,
+                });
             }
-            if let Some(_) = x.short {
-                return Ok((count, Cause::Short));
+            if step.short.is_some() {
+                return Ok(RunEnd {
+                    count: ran,
+                    cause: Cause::Short,
+                });
             }
         }
-        Ok((count, Cause::Budget))
+        Ok(RunEnd {
+            count: budget,
+            cause: Cause::Budget,
+        })
     }
 }

@@ -9,6 +9,7 @@ use planning::Plan;
 use std::alloc::Global;
 
 // No plan, or a plan with the place of its next mode and the length of the modes left.
+// An enum and no Option, since the rules name both states, and a plan alone without its place would not do.
 #[derive(Drop)]
 pub enum State {
     Idle,

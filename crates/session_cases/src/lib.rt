@@ -5,7 +5,7 @@
 mod tests {
     use driver::DriverDecline;
     use kuhn::Kuhn;
-    use law::{Answer, Call, Cause, SessionDecline, Shortfall};
+    use law::{Answer, Call, Cause, PlanSize, RunEnd, SessionDecline, Shortfall, Step};
     use layered::Layered;
     use ledger::perform;
     use lines::{Downlink, Line, Uplink};
@@ -54,19 +54,19 @@ mod tests {
     }
 
     fn stepped(number: usize, dwell: u16, short: Option<Shortfall>) -> Answer {
-        Answer::Stepped {
+        Answer::Stepped(Step {
             number,
             dwell,
             short,
-        }
+        })
     }
 
     fn planned(modes: usize, length: u32) -> Answer {
-        Answer::Planned { modes, length }
+        Answer::Planned(PlanSize { modes, length })
     }
 
     fn ran(count: u16, cause: Cause) -> Answer {
-        Answer::Ran { count, cause }
+        Answer::Ran(RunEnd { count, cause })
     }
 
     // The switch has no room for the mode of this number.

@@ -1,8 +1,7 @@
 -- The worked cases. Assumes nothing.
-use Rattle.std.proofs.Common.{◌≡◌, ℕ, zero, suc, ◌+◌, ◌<◌, ◌≤◌, min, Bool, true, false, ◌&&◌, eqb, List, [], ◌∷◌, length, sym, refl, ◌∙◌, inl, inr, arith}
-use Rattle.std.proofs.lemmas.Bool.{cases_eq, and_parts, eqb-true}
+use Rattle.std.proofs.Common.{◌≡◌, ℕ, zero, suc, ◌+◌, ◌<◌, ◌≤◌, min, Bool, true, false, List, [], ◌∷◌, length, sym, refl, ◌∙◌, arith}
 use Rattle.lines.specs.declared.Place.TheVariants.{Nowhere}
-use Rattle.lines.specs.Matrix.{Matrix, busiest, nothing, Same}
+use Rattle.lines.specs.Matrix.{busiest, nothing}
 use Rattle.lines.specs.Sums.{count_below}
 use Rattle.lines.specs.Sets.{has}
 use Rattle.lines.proofs.Bits.{has_over}
@@ -21,6 +20,7 @@ use Rattle.planning.specs.Plans.{Stands, number as plan_number, place as plan_pl
 use Rattle.planning.proofs.Rounds.{positives_most}
 use Rattle.planning.proofs.Serving.{best}
 use Rattle.worked_cases.specs.Worked.{five, three, three_padded, two_of_one, Worked}
+use Rattle.lines.proofs.Tests.{tested}
 
 -- ---- nothing owed
 
@@ -32,20 +32,6 @@ always_ten b NothingOwed z s = (refl, refl)
 always_ten b NoMemory z s = absurd (omega arith)
 
 -- ---- plans
-
--- a test of all crosspoints that computes
-abbrev all_below : ℕ → (ℕ → Bool) → Bool
-all_below zero f = true
-all_below (suc n) f = all_below n f && f n
-
-all_at : (n : ℕ) (f : ℕ → Bool) → all_below n f ≡ true → (k : ℕ) → k < n → f k ≡ true
-all_at zero f e k l = absurd (omega arith)
-all_at (suc n) f e k l =
-    let parts = and_parts (all_below n f) (f n) e in
-    elim (cases_eq k n) [ inl same ↦ rw same parts.1 | inr ne ↦ all_at n f parts.0 k (omega arith) ]
-
-tested : (n : ℕ) (p q : Matrix) → all_below n (λ i. all_below n (λ j. eqb (p i j) (q i j))) ≡ true → Same n p q
-tested n p q e i j li lj = eqb-true (p i j) (q i j) (all_at n (λ j. eqb (p i j) (q i j)) (all_at n (λ i. all_below n (λ j. eqb (p i j) (q i j))) e i li) j lj)
 
 pads : Padded 3 three three_padded
 pads = tested 3 three_padded (λ i j. three i j + min (up_lack 3 3 three three_padded i j) (down_lack 3 3 three three_padded i j)) refl

@@ -7,7 +7,7 @@ ghost use Rattle.lines.specs.Matrix.{uplink};
 ghost use Rattle.owed.specs.declared.decline.OwedDecline.TheVariants.{LineFull};
 ghost use Rattle.worked_cases.specs.Worked.{Worked};
 
-use lines::{Downlink, Uplink};
+use lines::{Decline, Downlink, Uplink};
 use owed::{LIMIT, Owed, OwedDecline};
 
 // One more unit for an uplink that is owed as much as a line takes.
@@ -25,8 +25,5 @@ pub fn worked_cases() -> bool
     ensures told { result ≡ true }
     ensures worked { Worked }
 {
-    match one_too_many() {
-        Ok(()) => false,
-        Err(e) => e.number() == 7,
-    }
+    one_too_many().is_err_and(|e| e.number() == 7)
 }

@@ -11,8 +11,8 @@ pub loop-i-preserved : goal.loop-i-preserved
 loop-i-preserved g c =
     let calls = c.args.calls.now in
     let answers = c.loop-i.answers in (
-      performs_more calls answers c.loop-i.i c.loop-i.invariant.0 _ _ c.act.result _ _ (omega arith) (omega arith) refl c.act.ensures,
-      keeps_more calls answers c.loop-i.i c.args.answers.now c.loop-i.invariant.1 c.act.result,
+      performs_more calls answers c.loop-i.i c.loop-i.invariant.0 _ _ c.answer.result _ _ (omega arith) (omega arith) refl c.answer.ensures,
+      keeps_more calls answers c.loop-i.i c.args.answers.now c.loop-i.invariant.1 c.answer.result,
     )
 
 pub returns : goal.returns
