@@ -1,8 +1,7 @@
 -- What each request is answered, and what it leaves. Assumes nothing.
-use Rattle.std.specs.Prelude.{◌≡◌, ℕ, Bool, true, false, ◌&&◌, ◌⊎◌, List, [], ◌∷◌, ◌++◌, length, Some, None, MatchBool, Option, ◌==◌}
+use Rattle.std.specs.Prelude.{◌≡◌, ℕ, Bool, true, false, ◌&&◌, ◌⊎◌, List, [], ◌∷◌, ◌++◌, length, Some, None, Ok, Err, MatchBool, Option, Result, ◌==◌}
 use Rattle.lines.specs.Matrix.{Matrix, busiest, nothing}
 use Rattle.lines.specs.Verdicts.{or_same}
-use Rattle.owed.specs.declared.decline.OwedDecline.{OwedDecline}
 use Rattle.owed.specs.Calls as owed
 use Rattle.owed.specs.Calls.{number, make_decline, line_decline, add_decline, take_decline, added, taken}
 use Rattle.lines.specs.declared.Uplink.{Uplink}
@@ -23,8 +22,8 @@ use Rattle.planning.specs.Plans.{number as plan_number}
 use Rattle.planning.specs.declared.decline.PlanDecline.TheVariants.{NothingOwed, NoMemory}
 use Rattle.replies.specs.declared.Reply.{Reply}
 use Rattle.replies.specs.declared.Reply.TheVariants as reply
-use Rattle.script.specs.declared.requests.Request.{Request}
-use Rattle.script.specs.declared.requests.Request.TheVariants.{Lines, Fault, Post, Withdraw, Plan, Step, Run, Drop, Owed}
+use Rattle.script.specs.Requests.{Request}
+use Rattle.script.specs.declared.commands.Command.TheVariants.{Lines, Fault, Post, Withdraw, Plan, Step, Run, Drop, Owed}
 use Rattle.desk.specs.declared.stage.Stage.{Stage}
 use Rattle.desk.specs.declared.stage.Stage.TheVariants as stage
 use Rattle.desk.specs.declared.desk.State.{State}
@@ -71,10 +70,6 @@ fault i j c t = record { up = i; down = j; most = c; from = t }
 abbrev pub fault_decline : Desk → FaultRule → Option RuleDecline
 fault_decline d f = rule_decline (switch_of d).lines (faults_of d) f
 
-abbrev pub fault_reply : Option RuleDecline → Reply
-fault_reply None = reply.Ok
-fault_reply (Some e) = reply.No (rule_number e)
-
 -- which requests are served
 abbrev pub served : Request → Bool
 served (Lines n) = true
@@ -91,22 +86,27 @@ served (Owed i j) = true
 abbrev pub out_of_place : Reply
 out_of_place = reply.No 19
 
+-- what a call replies, or else its decline's number
+abbrev pub reply_of : {E : Type 0} → (E → ℕ) → Result Reply E → Reply
+reply_of n (Ok r) = r
+reply_of n (Err e) = reply.No (n e)
+
 -- a decline's number, or else the answer
-abbrev pub unless : Option OwedDecline → Reply → Reply
-unless None r = r
-unless (Some e) r = reply.No (number e)
+abbrev pub unless : {E : Type 0} → (E → ℕ) → Option E → Reply → Reply
+unless n None r = r
+unless n (Some e) r = reply.No (n e)
 
 -- what a served request in its place is answered, with n lines and the units m owed
 abbrev pub answer : ℕ → Matrix → Request → Reply
-answer n m (Lines k) = unless (make_decline k) reply.Ok
+answer n m (Lines k) = unless number (make_decline k) reply.Ok
 answer n m (Fault i j c t) = out_of_place
-answer n m (Post i j u) = unless (add_decline n m i j u) reply.Ok
-answer n m (Withdraw i j u) = unless (take_decline n m i j u) reply.Ok
+answer n m (Post i j u) = unless number (add_decline n m i j u) reply.Ok
+answer n m (Withdraw i j u) = unless number (take_decline n m i j u) reply.Ok
 answer n m Plan = out_of_place
 answer n m Step = out_of_place
 answer n m (Run b) = out_of_place
 answer n m Drop = out_of_place
-answer n m (Owed i j) = unless (line_decline n i j) (reply.Owed (m i.0 j.0))
+answer n m (Owed i j) = unless number (line_decline n i j) (reply.Owed (m i.0 j.0))
 
 -- a plan of Kuhn's engine for the units m owed on n lines, told by its number of modes, its length and the engine's letter
 pub record Planned (n : ℕ) (m : Matrix) (r : Reply) : Type 0 where
@@ -126,7 +126,7 @@ Shows n m r = MatchBool (busiest n m == 0) (r ≡ reply.No (plan_number NothingO
 -- r is an answer to a request: the one answer, but for the engine's choice of a plan
 abbrev pub Replied : Desk → Request → Reply → Type 0
 Replied d (Lines k) r = r ≡ answer (lines_of d) (units_of d) (Lines k)
-Replied d (Fault i j c t) r = r ≡ fault_reply (fault_decline d (fault i j c t))
+Replied d (Fault i j c t) r = r ≡ unless rule_number (fault_decline d (fault i j c t)) reply.Ok
 Replied d (Post i j u) r = r ≡ answer (lines_of d) (units_of d) (Post i j u)
 Replied d (Withdraw i j u) r = r ≡ answer (lines_of d) (units_of d) (Withdraw i j u)
 Replied d Plan r = Shows (lines_of d) (units_of d) r

@@ -1,7 +1,7 @@
 -- The place of each request in a script: n first and accepted once, then fault rules until another command is read. Assumes nothing.
 use Rattle.std.specs.Prelude.{Bool, true, false, cond, not, ◌||◌}
-use Rattle.script.specs.declared.requests.Request.{Request}
-use Rattle.script.specs.declared.requests.Request.TheVariants.{Lines, Fault, Post, Withdraw, Plan, Step, Run, Drop, Owed}
+use Rattle.script.specs.Requests.{Request}
+use Rattle.script.specs.declared.commands.Command.TheVariants.{Lines, Fault, Post, Withdraw, Plan, Step, Run, Drop, Owed}
 use Rattle.desk.specs.declared.stage.Stage.{Stage}
 use Rattle.desk.specs.declared.stage.Stage.TheVariants.{Start, Rules, Running}
 

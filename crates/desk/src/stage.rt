@@ -4,7 +4,7 @@ ghost use Rattle.desk.specs.Stages.{admits};
 
 use script::Request;
 
-// Where a script stands: `n` has not been accepted; fault rules may follow; another command has been read.
+// Where a script stands, without what it holds there: `n` has not been accepted; fault rules may follow; another command has been read.
 #[derive(Clone, Copy)]
 pub enum Stage {
     Start,

@@ -1,17 +1,10 @@
 -- The bytes of each answer line. Assumes nothing.
 use Rattle.std.specs.Prelude.{ℕ, List, ◌++◌, Some, None, codes, decimal, Option}
 use Rattle.std.proofs.Math.Utf8.{encode}
-use Rattle.replies.specs.declared.Cause.{Cause}
-use Rattle.replies.specs.declared.Cause.TheVariants.{End, Short, Stop, Budget}
-use Rattle.replies.specs.declared.Shortfall.{Shortfall}
+use Rattle.runs.specs.declared.Shortfall.{Shortfall}
+use Rattle.runs.specs.Causes.{stop_word}
 use Rattle.replies.specs.declared.Reply.{Reply}
 use Rattle.replies.specs.declared.Reply.TheVariants.{Ok, Planned, Mode, Ran, Owed, No}
-
-abbrev pub stop_word : Cause → List ℕ
-stop_word End = codes "end"
-stop_word Short = codes "short"
-stop_word Stop = codes "stop"
-stop_word Budget = codes "budget"
 
 -- the line of a mode that was run, and what follows its dwell where units fell short
 abbrev pub mode_line : ℕ → ℕ → Option Shortfall → List ℕ

@@ -2,42 +2,12 @@
 #![tactic(auto)]
 
 ghost use Rattle.std.specs.Prelude.{◌≡◌, IfOk, Some, string_bytes};
-ghost use Rattle.replies.specs.Replies.{stop_word, line_of};
+ghost use Rattle.replies.specs.Replies.{line_of};
 
 use lines::{Downlink, Uplink};
+pub use runs::{Cause, Shortfall};
 use std::alloc::{AllocError, Global};
 use std::fmt;
-
-// Why a run stopped.
-#[derive(Clone, Copy, PartialEq, Eq, Debug)]
-pub enum Cause {
-    End,
-    Short,
-    Stop,
-    Budget,
-}
-
-impl Cause {
-    pub fn word(self) -> &'static str
-        ensures { result.now ≡ stop_word self }
-    {
-        match self {
-            Cause::End => "end",
-            Cause::Short => "short",
-            Cause::Stop => "stop",
-            Cause::Budget => "budget",
-        }
-    }
-}
-
-// The lowest uplink of a mode that fell short, with its downlink and missing units, and the missing units of all.
-#[derive(Clone, Copy, PartialEq, Eq, Debug)]
-pub struct Shortfall {
-    pub up: Uplink,
-    pub down: Downlink,
-    pub missing: u16,
-    pub total: u32,
-}
 
 // What is answered to a script line.
 #[derive(Clone, Copy, PartialEq, Eq, Debug)]
@@ -48,6 +18,7 @@ pub enum Reply {
         length: u32,
         letter: char,
     },
+    // the fields of a session's step, as a line prints them
     Mode {
         number: usize,
         dwell: u16,
@@ -58,6 +29,7 @@ pub enum Reply {
         cause: Cause,
     },
     Owed(u32),
+    // the number that is printed, whoever declined
     No(u16),
 }
 
@@ -75,24 +47,24 @@ impl fmt::Display for Reply {
             Reply::Mode {
                 number,
                 dwell,
-                short,
-            } => match short {
-                None => write!(f, "mode {number} {dwell}"),
-                Some(lack) => {
-                    let up = lack.up.0;
-                    let down = lack.down.0;
-                    let missing = lack.missing;
-                    let total = lack.total;
-                    write!(
-                        f,
-                        "mode {number} {dwell} short {up} {down} {missing} {total}"
-                    )
-                }
-            },
-            Reply::Ran { count, cause } => {
-                let word = cause.word();
-                write!(f, "ran {count} {word}")
-            }
+                short: None,
+            } => write!(f, "mode {number} {dwell}"),
+            Reply::Mode {
+                number,
+                dwell,
+                short: Some(
+                    Shortfall {
+                        up: Uplink(up),
+                        down: Downlink(down),
+                        missing,
+                        total,
+                    },
+                ),
+            } => write!(
+                f,
+                "mode {number} {dwell} short {up} {down} {missing} {total}"
+            ),
+            Reply::Ran { count, cause } => write!(f, "ran {count} {cause}"),
             Reply::Owed(units) => write!(f, "owed {units}"),
             Reply::No(number) => write!(f, "no {number}"),
         }

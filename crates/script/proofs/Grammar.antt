@@ -5,10 +5,9 @@ use Rattle.lines.specs.Matrix.{uplink, downlink}
 use Rattle.script.proofs.Pieces.{some_piece}
 use Rattle.script.specs.Words.{split, onto, spaced}
 use Rattle.script.specs.Numerals.{all_digits, read_on, number_of, Writes}
-use Rattle.script.specs.Commands.{fits, shaped, readable, longest}
-use Rattle.script.specs.Requests.{letter, numbers, Write, Makes, both, read_all, request, requested, asked, request_of, Meant}
-use Rattle.script.specs.declared.requests.Request.{Request}
-use Rattle.script.specs.declared.requests.Request.TheVariants.{Lines, Fault, Post, Withdraw, Plan, Step, Run, Drop, Owed}
+use Rattle.script.specs.Commands.{letter, fits, shaped, readable, longest}
+use Rattle.script.specs.Requests.{Request, numbers, Write, Makes, both, read_all, request, requested, asked, request_of, Meant}
+use Rattle.script.specs.declared.commands.Command.TheVariants.{Lines, Fault, Post, Withdraw, Plan, Step, Run, Drop, Owed}
 
 -- From a line that makes a request to the request that is read.
 
@@ -181,14 +180,11 @@ read_makes line q (w ∷ ws) e h short =
       short = short;
     }
 
-meant_as : (line : List ℕ) (r : Option Request) → request_of line ≡ r → Meant line r
-meant_as line None e = λ q m. some_none q (sym e ∙ read_made line q m)
-meant_as line (Some q) e =
+pub meant : (line : List ℕ) (r : Option Request) → request_of line ≡ r → Meant line r
+meant line None e = λ q m. some_none q (sym e ∙ read_made line q m)
+meant line (Some q) e =
     let good = cond_some (readable line) (asked (split line)) q e in
     let short = and_parts (leb (length line) longest) (shaped (split line)) good.0 in (
       read_makes line q (split line) refl good.1 (leb-true (length line) longest short.0),
       λ p m. let f = read_made line p m in cc,
     )
-
-pub meant : (line : List ℕ) → Meant line (request_of line)
-meant line = meant_as line (request_of line) refl

@@ -30,9 +30,3 @@ pub some_piece : (s : List ℕ) → 0 < length (split s)
 some_piece [] = omega arith
 some_piece (b ∷ bs) =
     elim (eqb b 32) as (λ t. 0 < length (cond t ([] ∷ split bs) (onto b (split bs)))) [ true ↦ omega arith | false ↦ onto_some b (split bs) ]
-
--- a list of one element
-pub single : (s : List ℕ) → length s ≡ 1 → s ≡ get_or s 0 0 ∷ []
-single [] e = absurd (omega arith)
-single (a ∷ []) e = refl
-single (a ∷ b ∷ s) e = absurd (omega arith)

@@ -1,35 +1,21 @@
 -- What a script line asks for: its letter and the numbers that its words write. Assumes nothing.
-use Rattle.std.specs.Prelude.{◌≡◌, ℕ, ◌≤◌, cond, List, [], ◌∷◌, ◌++◌, length, Some, None, codes, Option, ◌==◌}
+use Rattle.std.specs.Prelude.{◌≡◌, ℕ, ◌≤◌, cond, List, [], ◌∷◌, ◌++◌, length, Some, None, Option, ◌==◌}
 use Rattle.lines.specs.Matrix.{uplink, downlink}
 use Rattle.script.specs.Words.{split, spaced}
 use Rattle.script.specs.Numerals.{number_of, Writes}
-use Rattle.script.specs.Commands.{longest, readable}
-use Rattle.script.specs.declared.requests.Request.{Request}
-use Rattle.script.specs.declared.requests.Request.TheVariants.{Lines, Fault, Post, Withdraw, Plan, Step, Run, Drop, Owed}
+use Rattle.script.specs.Commands.{letter, parts, longest, readable}
+use Rattle.lines.specs.declared.Uplink.{Uplink}
+use Rattle.lines.specs.declared.Downlink.{Downlink}
+use Rattle.script.specs.declared.commands.Command.{Command}
+use Rattle.script.specs.declared.commands.Command.TheVariants.{Lines, Fault, Post, Withdraw, Plan, Step, Run, Drop, Owed}
 
--- the letter of a request
-abbrev pub letter : Request → List ℕ
-letter (Lines n) = codes "n"
-letter (Fault i j c t) = codes "f"
-letter (Post i j u) = codes "p"
-letter (Withdraw i j u) = codes "w"
-letter Plan = codes "m"
-letter Step = codes "s"
-letter (Run b) = codes "r"
-letter Drop = codes "d"
-letter (Owed i j) = codes "o"
+-- a command whose parts are numbers
+abbrev pub Request : Type 0
+Request = Command Uplink Downlink ℕ
 
 -- its numbers, in their order on the line
 abbrev pub numbers : Request → List ℕ
-numbers (Lines n) = n ∷ []
-numbers (Fault i j c t) = i.0 ∷ j.0 ∷ c ∷ t ∷ []
-numbers (Post i j u) = i.0 ∷ j.0 ∷ u ∷ []
-numbers (Withdraw i j u) = i.0 ∷ j.0 ∷ u ∷ []
-numbers Plan = []
-numbers Step = []
-numbers (Run b) = b ∷ []
-numbers Drop = []
-numbers (Owed i j) = i.0 ∷ j.0 ∷ []
+numbers q = parts (λ i. i.0) (λ j. j.0) (λ n. n) q
 
 -- words write numbers, each its own
 abbrev pub Write : List (List ℕ) → List ℕ → Type 0

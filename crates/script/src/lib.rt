@@ -6,5 +6,5 @@ mod numbers;
 mod requests;
 mod words;
 
-pub use commands::{Command, parse};
+pub use commands::{Command, Words, parse};
 pub use requests::{Request, read_line};

@@ -2,8 +2,6 @@
 ghost use Rattle.std.specs.Prelude.{◌≡◌, ◌<◌, ◌≤◌, true, false, length, MatchOption};
 ghost use Rattle.script.specs.Numerals.{all_digits, read_on, number_of};
 
-const LARGEST: u32 = 65535;
-
 const MOST_DIGITS: usize = 5;
 
 // The number that a short word writes in decimal, if it has digits only.
@@ -11,12 +9,10 @@ fn decimal(word: &[u8]) -> Option<u32>
     requires { length word.now ≤ 5 }
     ensures { MatchOption result (all_digits word.now ≡ false) (λ n. (all_digits word.now ≡ true) × (n ≡ read_on 0 word.now)) }
 {
+    // A loop and no fold: that n fits rests on how many digits came before.
     let mut n: u32 = 0;
     for b in word {
-        if !b.is_ascii_digit() {
-            return None;
-        }
-        n = 10 * n + (*b - b'0') as u32;
+        n = 10 * n + char::from(*b).to_digit(10)?;
     }
     Some(n)
 }
@@ -25,9 +21,8 @@ fn decimal(word: &[u8]) -> Option<u32>
 pub fn number(word: &[u8]) -> Option<u16>
     ensures { result ≡ number_of word.now }
 {
-    if word.len() == 0 || word.len() > MOST_DIGITS {
+    if word.is_empty() || word.len() > MOST_DIGITS {
         return None;
     }
-    let n = decimal(word)?;
-    if n > LARGEST { None } else { Some(n as u16) }
+    u16::try_from(decimal(word)?).ok()
 }

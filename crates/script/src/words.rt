@@ -1,84 +1,50 @@
 // The pieces of a line between its spaces.
 ghost use Rattle.std.specs.Prelude.{◌≡◌, [], ◌∷◌, length, MatchOption, ◌≢◌};
+ghost use Rattle.std.specs.Iterator.{YieldsFirstRef, item_count};
 ghost use Rattle.script.specs.Words.{split, more};
 
+// The pieces of what is left of a line: none after its last one.
+#[derive(Drop)]
+pub(super) struct Pieces<'a>(Option<&'a [u8]>);
+
+impl<'a> Pieces<'a> {
+    pub(super) fn of(line: &'a [u8]) -> Pieces<'a>
+        ensures { more result.0 ≡ split line.entry.now }
+    {
+        Pieces(Some(line))
+    }
+}
+
+impl<'a> Iterator for Pieces<'a> {
+    type Item = &'a [u8];
+
+    ghost next_gives = { YieldsFirstRef (λ p. more p.0) };
+
+    ghost remaining = { item_count (λ p. more p.0) };
+
+    fn next(&mut self) -> Option<&'a [u8]> {
+        let (piece, rest) = split_piece(self.0?);
+        self.0 = rest;
+        Some(piece)
+    }
+}
+
 // The piece of `s` before its first space, and what follows that space.
-pub(super) fn split_word(s: &[u8]) -> (&[u8], Option<&[u8]>)
+fn split_piece(s: &[u8]) -> (&[u8], Option<&[u8]>)
     ensures { split s.now ≡ result.0.now ∷ more result.1 }
 {
-    for (i, b) in s.iter().enumerate() {
-        if *b == b' ' {
-            return (&s[0..i], Some(&s[i + 1..]));
-        }
+    match s.iter().position(|b| *b == b' ') {
+        Some(i) => (&s[..i], Some(&s[i + 1..])),
+        None => (s, None),
     }
-    (s, None)
-}
-
-// The next word and what follows it.
-fn take_word(rest: Option<&[u8]>) -> Option<(&[u8], Option<&[u8]>)>
-    ensures { MatchOption result (more rest.entry ≡ []) (λ t. more rest.entry ≡ t.0.now ∷ more t.1) }
-{
-    match rest {
-        None => None,
-        Some(s) => Some(split_word(s)),
-    }
-}
-
-// No word.
-pub(super) fn no_word(rest: Option<&[u8]>) -> Option<()>
-    ensures { MatchOption result (length (more rest.entry) ≢ 0) (λ _. more rest.entry ≡ []) }
-{
-    match take_word(rest) {
-        None => Some(()),
-        Some(_) => None,
-    }
-}
-
-// One word and nothing after it.
-pub(super) fn one_word<'a>(rest: Option<&'a [u8]>) -> Option<&'a [u8]>
-    ensures { MatchOption result (length (more rest.entry) ≢ 1) (λ t. more rest.entry ≡ t.now ∷ []) }
-{
-    let (a, rest) = take_word(rest)?;
-    no_word(rest)?;
-    Some(a)
-}
-
-// Two words and nothing after them.
-pub(super) fn two_words<'a>(rest: Option<&'a [u8]>) -> Option<(&'a [u8], &'a [u8])>
-    ensures { MatchOption result (length (more rest.entry) ≢ 2) (λ t. more rest.entry ≡ t.0.now ∷ t.1.now ∷ []) }
-{
-    let (a, rest) = take_word(rest)?;
-    let b = one_word(rest)?;
-    Some((a, b))
-}
-
-// Three words and nothing after them.
-pub(super) fn three_words<'a>(rest: Option<&'a [u8]>) -> Option<(&'a [u8], &'a [u8], &'a [u8])>
-    ensures { MatchOption result (length (more rest.entry) ≢ 3) (λ t. more rest.entry ≡ t.0.now ∷ t.1.now ∷ t.2.now ∷ []) }
-{
-    let (a, rest) = take_word(rest)?;
-    let (b, c) = two_words(rest)?;
-    Some((a, b, c))
-}
-
-// Four words and nothing after them.
-pub(super) fn four_words<'a>(
-    rest: Option<&'a [u8]>,
-) -> Option<(&'a [u8], &'a [u8], &'a [u8], &'a [u8])>
-    ensures { MatchOption result (length (more rest.entry) ≢ 4) (λ t. more rest.entry ≡ t.0.now ∷ t.1.now ∷ t.2.now ∷ t.3.now ∷ []) }
-{
-    let (a, rest) = take_word(rest)?;
-    let (b, c, d) = three_words(rest)?;
-    Some((a, b, c, d))
 }
 
 // The character that is all of `head`.
 pub(super) fn only_letter(head: &[u8]) -> Option<char>
     ensures { MatchOption result (length head.now ≢ 1) (λ c. head.now ≡ c ∷ []) }
 {
-    if head.len() == 1 {
-        Some(char::from(head[0]))
-    } else {
-        None
+    match *head {
+        [letter] => Some(char::from(letter)),
+        _ => None,
     }
 }

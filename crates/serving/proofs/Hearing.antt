@@ -1,6 +1,6 @@
 -- A terminal that is given more bytes, or whose input ends. Assumes nothing.
-use Rattle.std.proofs.Common.{◌≡◌, ℕ, List, [], ◌∷◌, ◌++◌, Some, None, Option, sym, refl, subst}
-use Rattle.std.proofs.lemmas.List.{append-nil, append_assoc}
+use Rattle.std.proofs.Common.{◌≡◌, ℕ, ◌+◌, ◌<◌, ◌≤◌, List, [], ◌∷◌, ◌++◌, length, get_or, take, Some, None, Option, sym, refl, ap, ◌∙◌, subst}
+use Rattle.std.proofs.lemmas.List.{append-nil, append_assoc, take_more, take_all}
 use Rattle.replies.specs.declared.Reply.{Reply}
 use Rattle.terminal.specs.declared.Terminal.{Terminal}
 use Rattle.terminal.specs.Scripts.{lines_of, Answered, told}
@@ -18,16 +18,21 @@ told_after : (rs qs : List Reply) (r : Option Reply) → told (rs ++ qs) r ≡ r
 told_after rs qs None = refl
 told_after rs qs (Some a) = append_assoc rs qs (a ∷ [])
 
--- one byte more
-pub hears_on_more : {t m u : Terminal} (bytes : List ℕ) (b : ℕ) (r : Option Reply) → HearsOn t bytes m → ((script : List ℕ) (rs : List Reply) → Heard script rs m → Heard (script ++ b ∷ []) (told rs r) u) → HearsOn t (bytes ++ b ∷ []) u
-hears_on_more {t} {m} {u} bytes b r on take script rs h =
+-- the next of some bytes
+pub hears_on_more : {t m u : Terminal} (bytes : List ℕ) (i : ℕ) (r : Option Reply) → i < length bytes → HearsOn t (take i bytes) m → ((script : List ℕ) (rs : List Reply) → Heard script rs m → Heard (script ++ get_or bytes i 0 ∷ []) (told rs r) u) → HearsOn t (take (i + 1) bytes) u
+hears_on_more {t} {m} {u} bytes i r less on next script rs h =
     let so = on script rs h in
-    let next = take (script ++ bytes) (rs ++ so.more) so.heard in record {
+    let heard = next (script ++ take i bytes) (rs ++ so.more) so.heard in
+    let so_far = ap (λ (s : List ℕ). script ++ s) (sym (take_more bytes i 0 less)) in record {
       more = told so.more r;
       heard =
-          subst (λ (s : List ℕ). Heard s (rs ++ told so.more r) u) (append_assoc script bytes (b ∷ []))
-          (subst (λ (q : List Reply). Heard ((script ++ bytes) ++ b ∷ []) q u) (told_after rs so.more r) next);
+          subst (λ (s : List ℕ). Heard s (rs ++ told so.more r) u) (append_assoc script (take i bytes) (get_or bytes i 0 ∷ []) ∙ so_far)
+          (subst (λ (q : List Reply). Heard ((script ++ take i bytes) ++ get_or bytes i 0 ∷ []) q u) (told_after rs so.more r) heard);
     }
+
+-- all of them
+pub hears_on_all : {t u : Terminal} (bytes : List ℕ) (i : ℕ) → length bytes ≤ i → HearsOn t (take i bytes) u → HearsOn t bytes u
+hears_on_all {t} {u} bytes i all on = subst (λ (s : List ℕ). HearsOn t s u) (take_all i bytes all) on
 
 pub hears_after : {t u : Terminal} (bytes : List ℕ) → HearsOn t bytes u → Hears t → Hears u
 hears_after bytes on h =

@@ -1,5 +1,5 @@
 -- A script that grows by a byte, and its lines. Assumes nothing.
-use Rattle.std.proofs.Common.{◌≡◌, ℕ, Bool, true, false, cond, List, [], ◌∷◌, ◌++◌, MatchBool, sym, refl, ap, ◌∙◌, subst}
+use Rattle.std.proofs.Common.{◌≡◌, ℕ, Bool, true, false, cond, List, [], ◌∷◌, ◌++◌, sym, refl, ap, ◌∙◌, subst}
 use Rattle.std.specs.List.{AllByRecursion}
 use Rattle.std.proofs.lemmas.List.{append-nil, append_assoc}
 use Rattle.std.proofs.ByRecursion.{All-push}
@@ -9,10 +9,23 @@ use Rattle.line_input.specs.Lines.{Holds}
 use Rattle.replies.specs.declared.Reply.{Reply}
 use Rattle.script.specs.Requests.{request_of}
 use Rattle.desk.specs.declared.desk.Desk.{Desk}
-use Rattle.desk.specs.Replying.{Answers}
+use Rattle.desk.specs.declared.stage.Stage.TheVariants.{Start}
+use Rattle.desk.specs.Replying.{stage_of, Answers}
 use Rattle.terminal.specs.declared.Terminal.{Terminal}
 use Rattle.terminal.specs.Scripts.{before, lines_of, Talk, Answered}
 use Rattle.terminal.specs.Input.{Closed, Grown, Unbroken, fed, Heard}
+
+-- nothing has come
+pub begun : (t : Terminal) → stage_of t.desk ≡ Start → Holds t.input [] → Heard [] [] t
+begun t opened held = record {
+  lines = [];
+  last = [];
+  laid = refl;
+  apart = tt;
+  unbroken = tt;
+  answered = record { start = t.desk; opened = opened; talk = refl };
+  held = held;
+}
 
 -- one line more is answered
 talk_more : (ls : List (List ℕ)) (rs : List Reply) (d e f : Desk) (l : List ℕ) (r : Reply) → Talk d ls rs e → Answers e (request_of l) r f → Talk d (ls ++ l ∷ []) (rs ++ r ∷ []) f
@@ -98,19 +111,14 @@ rest_one [] e = absurd (true≢false e)
 rest_one (b ∷ l) e = refl
 
 -- the input ends where no line has begun
-pub all_answered : (script : List ℕ) (rs : List Reply) (t : Terminal) → ((line : List ℕ) → Holds t.input line → is_empty line ≡ true) → Heard script rs t → Answered (lines_of script) rs t.desk
-all_answered script rs t f h =
-    let same : lines_of script ≡ h.lines = heard_lines script rs t h ∙ ap (λ (x : List (List ℕ)). h.lines ++ x) (rest_none h.last (f h.last h.held)) ∙ append-nil h.lines in
+pub all_answered : (script : List ℕ) (rs : List Reply) (t : Terminal) (done : Bool) → ((line : List ℕ) → Holds t.input line → done ≡ is_empty line) → done ≡ true → Heard script rs t → Answered (lines_of script) rs t.desk
+all_answered script rs t done f e h =
+    let same : lines_of script ≡ h.lines = heard_lines script rs t h ∙ ap (λ (x : List (List ℕ)). h.lines ++ x) (rest_none h.last (sym (f h.last h.held) ∙ e)) ∙ append-nil h.lines in
     subst (λ (ls : List (List ℕ)). Answered ls rs t.desk) (sym same) h.answered
 
 -- the input ends within a line
-pub last_answered : (script : List ℕ) (rs : List Reply) (t u : Terminal) (r : Reply) → ((line : List ℕ) → Holds t.input line → is_empty line ≡ false) → ((line : List ℕ) → Holds t.input line → Closed t line r u) → Heard script rs t → Answered (lines_of script) (rs ++ r ∷ []) u.desk
-last_answered script rs t u r f g h =
-    let same : lines_of script ≡ h.lines ++ h.last ∷ [] = heard_lines script rs t h ∙ ap (λ (x : List (List ℕ)). h.lines ++ x) (rest_one h.last (f h.last h.held)) in
+pub last_answered : (script : List ℕ) (rs : List Reply) (t u : Terminal) (r : Reply) (done : Bool) → ((line : List ℕ) → Holds t.input line → done ≡ is_empty line) → done ≡ false → ((line : List ℕ) → Holds t.input line → Closed t line r u) → Heard script rs t → Answered (lines_of script) (rs ++ r ∷ []) u.desk
+last_answered script rs t u r done f e g h =
+    let same : lines_of script ≡ h.lines ++ h.last ∷ [] = heard_lines script rs t h ∙ ap (λ (x : List (List ℕ)). h.lines ++ x) (rest_one h.last (sym (f h.last h.held) ∙ e)) in
     subst (λ (ls : List (List ℕ)). Answered ls (rs ++ r ∷ []) u.desk) (sym same)
     (answered_more h.lines rs t.desk u.desk h.last r h.answered (g h.last h.held).reply)
-
--- the first of two cases
-pub when_yes : (b : Bool) (P Q : Type 0) → b ≡ true → P → MatchBool b P Q
-when_yes true P Q e p = p
-when_yes false P Q e p = absurd (false≢true e)

@@ -13,7 +13,7 @@ use line_input::LineBuffer;
 use replies::Reply;
 use std::alloc::Global;
 
-const LINE_FEED: u8 = 10;
+const LINE_FEED: u8 = b'\n';
 
 // A script that is read: its line so far, and what its earlier lines led to.
 #[derive(Drop)]
@@ -24,6 +24,7 @@ pub struct Terminal {
 
 impl Terminal {
     // The beginning of a script.
+    #[tactic(auto, using(crate::proofs::Histories::begun))]
     pub fn new(heap: Global) -> Terminal
         ensures { Heard [] [] result }
     {
@@ -42,51 +43,16 @@ impl Terminal {
         reply
     }
 
-    // The line feed ends the line.
-    fn end_line(&mut self, byte: u8) -> Reply
-        requires { byte ≡ 10 }
-        ensures step { (line : List ℕ) → Holds self.old.input line → Closed self.old line result self.new }
-        ensures heard { (script : List ℕ) (rs : List Reply) → Heard script rs self.old → Heard (script ++ byte ∷ []) (rs ++ result ∷ []) self.new }
-    {
-        let _ = byte;
-        self.answer()
-    }
-
-    // Another byte is one of the line.
-    fn go_on(&mut self, byte: u8)
-        requires { byte ≢ 10 }
-        ensures step { (line : List ℕ) → Holds self.old.input line → Grown self.old (line ++ byte ∷ []) self.new }
-        ensures heard { (script : List ℕ) (rs : List Reply) → Heard script rs self.old → Heard (script ++ byte ∷ []) rs self.new }
-    {
-        self.input.push(byte);
-    }
-
-    // Whether the script ends after a line feed, or is empty.
-    fn is_done(&self) -> bool
-        ensures step { (line : List ℕ) → Holds self.now.input line → result ≡ is_empty line }
-        ensures heard { result ≡ true → (script : List ℕ) (rs : List Reply) → Heard script rs self.now → Answered (lines_of script) rs self.now.desk }
-    {
-        self.input.is_empty()
-    }
-
-    // The answer to a last line without a line feed.
-    fn last_line(&mut self) -> Reply
-        requires { (line : List ℕ) → Holds self.old.input line → is_empty line ≡ false }
-        ensures step { (line : List ℕ) → Holds self.old.input line → Closed self.old line result self.new }
-        ensures heard { (script : List ℕ) (rs : List Reply) → Heard script rs self.old → Answered (lines_of script) (rs ++ result ∷ []) self.new.desk }
-    {
-        self.answer()
-    }
-
     // One byte more, with the answer to the line that it ends.
+    #[tactic(auto, using(crate::proofs::Histories::line_ended, crate::proofs::Histories::line_grown))]
     pub fn take(&mut self, byte: u8) -> Option<Reply>
         ensures step { (line : List ℕ) → Holds self.old.input line → Took self.old line byte result self.new }
         ensures heard { (script : List ℕ) (rs : List Reply) → Heard script rs self.old → Heard (script ++ byte ∷ []) (told rs result) self.new }
     {
         if byte == LINE_FEED {
-            return Some(self.end_line(byte));
+            return Some(self.answer());
         }
-        self.go_on(byte);
+        self.input.push(byte);
         None
     }
 
@@ -95,9 +61,9 @@ impl Terminal {
         ensures step { (line : List ℕ) → Holds self.old.input line → Ended self.old line result self.new }
         ensures heard { (script : List ℕ) (rs : List Reply) → Heard script rs self.old → Answered (lines_of script) (told rs result) self.new.desk }
     {
-        if self.is_done() {
+        if self.input.is_empty() {
             return None;
         }
-        Some(self.last_line())
+        Some(self.answer())
     }
 }

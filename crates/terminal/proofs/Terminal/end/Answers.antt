@@ -1,9 +1,8 @@
-use Rattle.std.proofs.Common.{sym, refl, ◌∙◌}
-use Rattle.terminal.proofs.Histories.{when_yes}
+use Rattle.terminal.proofs.Histories.{all_answered, last_answered}
 use Rattle.terminal.proofs.Terminal.end.Goals as goal
 
-pub returns-then-is_done : goal.returns-then-is_done
-returns-then-is_done c = record {
-  step = λ line h. when_yes _ _ _ (sym (c.is_done.ensures.step line h) ∙ c.if-is_done.true) (refl, record { same = refl; next = h });
-  heard = c.is_done.ensures.heard c.if-is_done.true;
-}
+pub returns-then-is_empty-clause-heard : goal.returns-then-is_empty-clause-heard
+returns-then-is_empty-clause-heard c = λ script rs h. all_answered script rs c.args.self.now _ c.is_empty.ensures c.if-is_empty.true h
+
+pub returns-clause-heard : goal.returns-clause-heard
+returns-clause-heard c = λ script rs h. last_answered script rs c.args.self.now _ c.answer.result _ c.is_empty.ensures c.if-is_empty.false c.answer.ensures h
