@@ -193,6 +193,7 @@ mod tests {
     }
 
     fn bits(state: u64) -> u16 {
+        // sixteen bits are left
         (state >> 40 & 65535) as u16
     }
 

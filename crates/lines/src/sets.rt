@@ -54,6 +54,7 @@ fn low_bits(n: usize) -> u16
     requires { n ≤ 16 }
     ensures { (k : ℕ) → has result k ≡ nat_lt k n }
 {
+    // it fits, since n is at most 16
     ((1u32 << n) - 1) as u16
 }
 
@@ -68,6 +69,7 @@ fn lowest_bit(set: u16) -> usize
     requires { 0 < set }
     ensures { (result < 16) × In set result × ((k : ℕ) → k < result → has set k ≡ false) }
 {
+    // every u32 is a usize here, which the library has no From for
     set.trailing_zeros() as usize
 }
 

@@ -160,6 +160,7 @@ impl Owed {
     pub fn busiest(&self) -> u32
         ensures { result ≡ most (lines_of self.now) (units_of self.now) }
     {
+        // the number of lines fits, since it is at most 16
         (0..self.lines.count() as u16)
             .map(|k| {
                 let up = self.load(Line::Up(Uplink(k)));

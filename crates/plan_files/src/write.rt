@@ -15,6 +15,7 @@ fn entry_bytes(grant: Option<Join>) -> [u8; 3]
     match grant {
         Some(join) if join.down.0 < UNUSED => {
             let [high, low] = join.units.to_be_bytes();
+            // it fits, since it is below 254
             [join.down.0 as u8, high, low]
         }
         _ => [NO_GRANT, 0, 0],
