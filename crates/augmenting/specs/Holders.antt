@@ -45,6 +45,10 @@ Busy hs up = (j : ℕ) × (j < 16) × (holder hs j ≡ up)
 abbrev pub Idle : Holders → ℕ → Type 0
 Idle hs up = (j : ℕ) → j < 16 → holder hs j ≢ up
 
+-- the set has just the uplinks that hold a downlink
+abbrev pub Told : Holders → ℕ → Type 0
+Told hs set = (u : ℕ) → u < 16 → (In set u → Idle hs u → ⊥) × (has set u ≡ false → Idle hs u)
+
 -- the downlinks by uplink: of each uplink what it holds, or none
 pub record Mated (hs : Holders) (mates : List Downlink) : Type 0 where
   pub holding : (j : ℕ) → j < 16 → holder hs j < 16 → slice_index_or mates (holder hs j) unused ≡ downlink j

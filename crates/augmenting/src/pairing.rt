@@ -1,7 +1,7 @@
 // A partial matching: which uplink holds which downlink.
 ghost use Rattle.std.specs.Prelude.{◌≡◌, ℕ, ◌<◌, None, slice_index_or, true, false, ◌&&◌, nat_lt};
 ghost use Rattle.lines.specs.Sets.{has, In};
-ghost use Rattle.augmenting.specs.Holders.{holder, Known, Apart, Idle, Mated, Augmented};
+ghost use Rattle.augmenting.specs.Holders.{holder, Known, Apart, Told, Mated, Augmented};
 
 use crate::search::seat_idle;
 use lines::{Downlink, Uplink, has_line, with_line};
@@ -10,8 +10,11 @@ use lines::{Downlink, Uplink, has_line, with_line};
 #[derive(Clone, Copy)]
 pub struct Pairing {
     holders: [Option<Uplink>; 16],
+    // the uplinks that hold one, so that none has to be looked for among the holders
+    busy: u16,
     ghost known: { Known holders },
     ghost apart: { Apart holders },
+    ghost told: { Told holders busy },
 }
 
 fn all_free() -> [Option<Uplink>; 16]
@@ -27,6 +30,7 @@ impl Pairing {
     {
         Pairing {
             holders: all_free(),
+            busy: 0,
         }
     }
 
@@ -81,9 +85,14 @@ impl Pairing {
         if up.0 >= 16 {
             return false;
         }
-        if self.holders.iter().any(|holder| *holder == Some(up)) {
+        let up = usize::from(up.0);
+        if has_line(self.busy, up) {
             return true;
         }
-        seat_idle(rows, usize::from(up.0), tried, &mut self.holders)
+        let seated = seat_idle(rows, up, tried, &mut self.holders);
+        if seated {
+            self.busy = with_line(self.busy, up);
+        }
+        seated
     }
 }
