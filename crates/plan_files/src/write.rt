@@ -27,7 +27,12 @@ fn entries_of(row: &[Option<Join>; 16]) -> [[u8; 3]; 16]
     ensures written { result ≡ map grant_bytes row.now }
     ensures sixteen { length row.now ≡ 16 }
 {
-    row.map(entry_bytes)
+    // A loop, since `row.map(entry_bytes)` takes several times as long.
+    let mut entries = [[0; 3]; 16];
+    for (i, grant) in row.iter().enumerate() {
+        entries[i] = entry_bytes(*grant);
+    }
+    entries
 }
 
 // The record of a mode.
