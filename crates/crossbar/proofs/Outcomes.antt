@@ -1,11 +1,31 @@
--- What the outcomes of an open mode keep. Assumes nothing.
-use Rattle.std.proofs.Common.{◌≡◌, ℕ, ◌≤◌, Bool, true, false, cond, eqb, get_or, Some, None, Option, refl, ap, arith}
+-- The outcomes of a row, as the carrier gives them. Assumes nothing.
+use Rattle.std.proofs.Common.{◌≡◌, ℕ, zero, suc, ◌+◌, ◌<◌, ◌≤◌, Bool, true, false, cond, eqb, List, [], ◌∷◌, length, get_or, Some, None, Option, sym, refl, ap, ◌∙◌, arith}
+use Rattle.std.proofs.lemmas.List.{ext_get_or}
 use Rattle.schedule.specs.declared.Join.{Join}
 use Rattle.schedule.specs.declared.Mode.{Mode}
 use Rattle.switch.specs.declared.Outcome.{Outcome}
 use Rattle.switch.specs.Meaning.{is_open, row_of}
 use Rattle.switch.specs.Calls.{CarriesAt, carried_to}
+use Rattle.crossbar.specs.Carries.{outcome_by, outcomes_from, outcomes_by}
 use Rattle.crossbar.specs.Kept.{under_way, units_of, down_of, down_out, units_held, down_held}
+
+module _ (f : ℕ → ℕ → ℕ → ℕ) where
+  pub outcomes_length : (i : ℕ) (row : List (Option Join)) → length (outcomes_from f i row) ≡ length row
+  outcomes_length i [] = refl
+  outcomes_length i (x ∷ row) = ap suc (outcomes_length (suc i) row)
+
+  from_at : (i k : ℕ) (row : List (Option Join)) → get_or (outcomes_from f i row) k None ≡ outcome_by f (i + k) (get_or row k None)
+  from_at i k [] = refl
+  from_at i zero (x ∷ row) = let e : i ≡ i + 0 = omega arith in ap (λ n. outcome_by f n x) e
+  from_at i (suc k) (x ∷ row) = let e : suc i + k ≡ i + suc k = omega arith in from_at (suc i) k row ∙ ap (λ n. outcome_by f n (get_or row k None)) e
+
+  -- the outcome of each uplink
+  pub outcomes_at : (k : ℕ) (row : List (Option Join)) → get_or (outcomes_by f row) k None ≡ outcome_by f k (get_or row k None)
+  outcomes_at k row = let e : 0 + k ≡ k = omega arith in from_at 0 k row ∙ ap (λ n. outcome_by f n (get_or row k None)) e
+
+  -- outcomes that are right at each uplink are these
+  pub outcomes_all : (os : List (Option Outcome)) (row : List (Option Join)) → length os ≡ length row → ((k : ℕ) → k < length os → get_or os k None ≡ outcome_by f k (get_or row k None)) → os ≡ outcomes_by f row
+  outcomes_all os row long each = ext_get_or None os (outcomes_by f row) (long ∙ sym (outcomes_length 0 row)) (λ k l. each k l ∙ sym (outcomes_at k row))
 
 -- an outcome is of its grant
 carries_down : (j : Option Join) (o : Option Outcome) → CarriesAt j o → down_out o ≡ down_of j
