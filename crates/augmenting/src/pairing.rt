@@ -10,7 +10,7 @@ use lines::{Downlink, Uplink, has_line, with_line};
 #[derive(Clone, Copy)]
 pub struct Pairing {
     holders: [Option<Uplink>; 16],
-    // the uplinks that hold one, so that none has to be looked for among the holders
+    // the uplinks that hold a downlink: to go through the holders takes longer
     busy: u16,
     ghost known: { Known holders },
     ghost apart: { Apart holders },
